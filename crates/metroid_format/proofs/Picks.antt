@@ -1,0 +1,45 @@
+-- Which side a `pick` takes, from the fact behind its test: the set `picks` closes a return after a chain of tests.
+use Prim.Native.Nat.{ℕ, _≤_, _<_}
+use mathlib.Core.Bool.{Bool, true, false}
+use mathlib.Core.Path.{_≡_, refl, sym, ap, subst, _∙_}
+use borrow.Author.Tests.{eq-eqb, ne-eqb, le-leb, lt-leb}
+use lib.Dec.{eqb, leb}
+use Rattle.metroid_format.specs.Pick.{pick}
+use Rattle.metroid_format.specs.Number.{Told, Answers}
+
+pub pick-true : {A : Type 0} (b : Bool) (x y z : A) → b ≡ true → z ≡ x → z ≡ pick b x y
+pick-true b x y z h e = rw h e
+
+pub pick-false : {A : Type 0} (b : Bool) (x y z : A) → b ≡ false → z ≡ y → z ≡ pick b x y
+pick-false b x y z h e = rw h e
+
+pub pick-eq : {A : Type 0} (m n : ℕ) (x y z : A) → m ≡ n → z ≡ x → z ≡ pick (eqb m n) x y
+pick-eq m n x y z h e = pick-true (eqb m n) x y z (eq-eqb m n h) e
+
+pub pick-ne : {A : Type 0} (m n : ℕ) (x y z : A) → (m ≡ n → ⊥) → z ≡ y → z ≡ pick (eqb m n) x y
+pick-ne m n x y z h e = pick-false (eqb m n) x y z (ne-eqb m n h) e
+
+pub pick-le : {A : Type 0} (m n : ℕ) (x y z : A) → m ≤ n → z ≡ x → z ≡ pick (leb m n) x y
+pick-le m n x y z h e = pick-true (leb m n) x y z (le-leb m n h) e
+
+pub pick-gt : {A : Type 0} (m n : ℕ) (x y z : A) → n < m → z ≡ y → z ≡ pick (leb m n) x y
+pick-gt m n x y z h e = pick-false (leb m n) x y z (lt-leb m n h) e
+
+-- the test is what a call returned
+pub pick-yes : {A : Type 0} (r b : Bool) (x y z : A) → r ≡ b → r ≡ true → z ≡ x → z ≡ pick b x y
+pick-yes r b x y z q h e = pick-true b x y z (sym q ∙ h) e
+
+pub pick-not : {A : Type 0} (r b : Bool) (x y z : A) → r ≡ b → r ≡ false → z ≡ y → z ≡ pick b x y
+pick-not r b x y z q h e = pick-false b x y z (sym q ∙ h) e
+
+-- the test is of a number that a call returned
+pub pick-call-eq : {A : Type 0} (r m n : ℕ) (x y z : A) → r ≡ m → r ≡ n → z ≡ x → z ≡ pick (eqb m n) x y
+pick-call-eq r m n x y z q h e = pick-eq m n x y z (sym q ∙ h) e
+
+pub pick-call-ne : {A : Type 0} (r m n : ℕ) (x y z : A) → r ≡ m → (r ≡ n → ⊥) → z ≡ y → z ≡ pick (eqb m n) x y
+pick-call-ne r m n x y z q h e = pick-ne m n x y z (λ f. h (q ∙ f)) e
+
+pub answers : {A : Type 0} (told : A → Told) (r d : A) → r ≡ d → Answers told r d
+answers told r d e = record { same = e; tells = ap told e }
+
+pub ruleset picks = (pick-eq, pick-ne, pick-le, pick-gt, pick-yes, pick-not, pick-call-eq, pick-call-ne, pick-true, pick-false, refl, answers)

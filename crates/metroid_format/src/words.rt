@@ -1,0 +1,1 @@
+// Commands as words, read and written straight.
