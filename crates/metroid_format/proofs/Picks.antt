@@ -3,7 +3,7 @@ use Prim.Native.Nat.{ℕ, _≤_, _<_}
 use mathlib.Core.Bool.{Bool, true, false}
 use mathlib.Core.Path.{_≡_, refl, sym, ap, subst, _∙_}
 use borrow.Author.Tests.{eq-eqb, ne-eqb, le-leb, lt-leb}
-use lib.Dec.{eqb, leb}
+use lib.Dec.{T, eqb, leb}
 use Rattle.metroid_format.specs.Pick.{pick}
 use Rattle.metroid_format.specs.Number.{Told, Answers}
 
@@ -38,6 +38,14 @@ pick-call-eq r m n x y z q h e = pick-eq m n x y z (sym q ∙ h) e
 
 pub pick-call-ne : {A : Type 0} (r m n : ℕ) (x y z : A) → r ≡ m → (r ≡ n → ⊥) → z ≡ y → z ≡ pick (eqb m n) x y
 pick-call-ne r m n x y z q h e = pick-ne m n x y z (λ f. h (q ∙ f)) e
+
+-- what holds of both sides holds of the pick
+pub by-test {κ} : {A : Type 0} (P : A → Type κ) {x y : A} (b : Bool) → (b ≡ true → P x) → (b ≡ false → P y) → P (pick b x y)
+by-test P true f g = f refl
+by-test P false f g = g refl
+
+pub false-true : false ≡ true → ⊥
+false-true e = subst T (sym e) tt
 
 pub answers : {A : Type 0} (told : A → Told) (r d : A) → r ≡ d → Answers told r d
 answers told r d e = record { same = e; tells = ap told e }

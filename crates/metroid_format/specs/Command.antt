@@ -55,6 +55,13 @@ wordOf (BeginLoop n) = 0xc0 + n
 wordOf (Length l note) = 0xb0 + l + 256 * note
 wordOf (Note b) = b
 
+abbrev pub isEnd : Command → Bool
+isEnd End = true
+isEnd EndLoop = false
+isEnd (BeginLoop n) = false
+isEnd (Length l note) = false
+isEnd (Note b) = false
+
 abbrev pub told : Decoded → Told
 told (Found c next) = record { number = 0; values = wordOf c ∷ next ∷ [] }
 told (Refused n at) = record { number = n; values = at ∷ [] }

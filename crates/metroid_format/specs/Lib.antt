@@ -1,3 +1,4 @@
 pub mod Pick
 pub mod Number
 pub mod Command
+pub mod Words

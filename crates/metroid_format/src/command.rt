@@ -27,6 +27,13 @@ pub enum Command {
     Note(u8),
 }
 
+// How channel data comes to a stop.
+pub enum Finish {
+    End,
+    // the number of the refusal and the offset of the byte
+    Refused(u32, usize),
+}
+
 pub enum Decoded {
     // the command and the offset after it
     Found(Command, usize),

@@ -1,0 +1,128 @@
+-- What stands where a command is found, and the other way round.
+use Prim.Native.Nat.{ℕ, _+_, _*_, _/_, _%_, _≤_, _<_, _^_}
+use mathlib.Core.Bool.{Bool, true, false}
+use mathlib.Core.List.{List, [], _∷_}
+use mathlib.Core.Path.{_≡_, refl, sym, ap, subst, _∙_}
+use native.Mathlib.Omega.{arith}
+use borrow.Author.Tests.{eqb-true, eqb-false, leb-true, leb-false, lt-leb, ne-eqb, eq-eqb}
+use lib.Dec.{leb, eqb, lit<}
+use lib.ListN.{length, getD}
+use Rattle.metroid_format.specs.Pick.{pick}
+use Rattle.metroid_format.specs.Number.{invalid-command, invalid-note, past-data}
+use Rattle.metroid_format.specs.Command.{commandAt, commandOf, noteAfter, isKey, isPreset, isNote, wordOf}
+use Rattle.metroid_format.specs.declared.command.Kind.{Kind}
+use Rattle.metroid_format.specs.declared.command.Kind.the-variants.{Melodic, Noise}
+use Rattle.metroid_format.specs.declared.command.Command.{Command}
+use Rattle.metroid_format.specs.declared.command.Command.the-variants.{End, EndLoop, BeginLoop, Length, Note}
+use Rattle.metroid_format.specs.declared.command.Decoded.{Decoded}
+use Rattle.metroid_format.specs.declared.command.Decoded.the-variants.{Found, Refused}
+use Rattle.metroid_format.proofs.Picks.{by-test, false-true, picks}
+
+-- a command that stands at an offset, with the offset after it
+pub data Stands (kind : Kind) (bytes : List ℕ) (at : ℕ) : Command → ℕ → Type 0 where
+  is-end : at < length bytes → getD bytes at 0 ≡ 0x00 → Stands kind bytes at End (at + 1)
+  is-end-loop : at < length bytes → getD bytes at 0 ≡ 0xff → Stands kind bytes at EndLoop (at + 1)
+  is-begin : (n : ℕ) → n < 63 → at < length bytes → getD bytes at 0 ≡ 0xc0 + n → Stands kind bytes at (BeginLoop n) (at + 1)
+  is-length : (l note : ℕ) → l < 16 → isNote kind note ≡ true → at + 1 < length bytes → getD bytes at 0 ≡ 0xb0 + l → getD bytes (at + 1) 0 ≡ note → Stands kind bytes at (Length l note) (at + 1 + 1)
+  is-note : (b : ℕ) → 0 < b → b < 0x80 → isNote kind b ≡ true → at < length bytes → getD bytes at 0 ≡ b → Stands kind bytes at (Note b) (at + 1)
+
+abbrev Right : Kind → List ℕ → ℕ → Decoded → Type 0
+Right kind bytes at (Found c next) = Stands kind bytes at c next
+Right kind bytes at (Refused number offset) = Unit {0}
+
+note-small : (kind : Kind) (b : ℕ) → isNote kind b ≡ true → b < 0x80
+unfolding isKey isPreset
+note-small Melodic b y =
+    by-test (λ x. x ≡ true → b < 0x80) (eqb (b % 2) 0) (λ _ z. omega (arith, leb-true b 0x7e z)) (λ _ z. absurd (false-true z)) y
+note-small Noise b y =
+    by-test (λ x. x ≡ true → b < 0x80) (eqb b 0x01) (λ e _. omega (arith, eqb-true b 0x01 e))
+    (λ _. by-test (λ x. x ≡ true → b < 0x80) (eqb b 0x04) (λ e _. omega (arith, eqb-true b 0x04 e))
+    (λ _. by-test (λ x. x ≡ true → b < 0x80) (eqb b 0x07) (λ e _. omega (arith, eqb-true b 0x07 e))
+    (λ _ z. omega (arith, eqb-true b 0x0a z)))) y
+
+fits : {kind : Kind} {bytes : List ℕ} {at : ℕ} {c : Command} {next : ℕ} → Stands kind bytes at c next → wordOf c < 2 ^ 16
+fits (is-end h e) = lit< tt
+fits (is-end-loop h e) = lit< tt
+fits (is-begin n s h e) = omega arith
+fits {kind} (is-length l note s y h e g) = omega (arith, note-small kind note y)
+fits (is-note b p s y h e) = omega arith
+
+pub next-after : {kind : Kind} {bytes : List ℕ} {at : ℕ} {c : Command} {next : ℕ} → Stands kind bytes at c next → at < next
+next-after (is-end h e) = omega arith
+next-after (is-end-loop h e) = omega arith
+next-after (is-begin n s h e) = omega arith
+next-after (is-length l note s y h e g) = omega arith
+next-after (is-note b p s y h e) = omega arith
+
+pub next-within : {kind : Kind} {bytes : List ℕ} {at : ℕ} {c : Command} {next : ℕ} → Stands kind bytes at c next → next ≤ length bytes
+next-within (is-end h e) = omega arith
+next-within (is-end-loop h e) = omega arith
+next-within (is-begin n s h e) = omega arith
+next-within (is-length l note s y h e g) = omega arith
+next-within (is-note b p s y h e) = omega arith
+
+module _ (kind : Kind) (bytes : List ℕ) (at : ℕ) where
+  after-right : at < length bytes → getD bytes at 0 / 16 ≡ 0x0b → Right kind bytes at (noteAfter kind bytes (at + 1) (getD bytes at 0 % 16))
+  unfolding noteAfter
+  after-right h q =
+      by-test (Right kind bytes at) (leb (length bytes) (at + 1)) (λ _. tt)
+      (λ n. by-test (Right kind bytes at) (isNote kind (getD bytes (at + 1) 0))
+      (λ y. is-length (getD bytes at 0 % 16) (getD bytes (at + 1) 0) (omega arith) y (leb-false _ _ n) (omega arith) refl)
+      (λ _. tt))
+
+  command-right : Right kind bytes at (commandAt kind bytes at)
+  unfolding commandAt commandOf
+  command-right =
+      by-test (Right kind bytes at) (leb (length bytes) at) (λ _. tt)
+      (λ n. let h = leb-false (length bytes) at n in
+      by-test (Right kind bytes at) (eqb (getD bytes at 0) 0x00) (λ e. is-end h (eqb-true _ _ e))
+      (λ e0. let z = eqb-false (getD bytes at 0) 0x00 e0 in
+      by-test (Right kind bytes at) (eqb (getD bytes at 0) 0xff) (λ e. is-end-loop h (eqb-true _ _ e))
+      (λ e1. let f = eqb-false (getD bytes at 0) 0xff e1 in
+      by-test (Right kind bytes at) (eqb (getD bytes at 0 / 64) 3)
+      (λ e. let q = eqb-true (getD bytes at 0 / 64) 3 e in is-begin (getD bytes at 0 % 64) (omega arith) h (omega arith))
+      (λ e2. by-test (Right kind bytes at) (eqb (getD bytes at 0 / 16) 0x0b) (λ e. after-right h (eqb-true _ _ e))
+      (λ e3. by-test (Right kind bytes at) (leb 0x80 (getD bytes at 0)) (λ _. tt)
+      (λ e4. let s = leb-false 0x80 (getD bytes at 0) e4 in
+      by-test (Right kind bytes at) (isNote kind (getD bytes at 0))
+      (λ y. is-note (getD bytes at 0) (omega arith) s y h refl)
+      (λ _. tt)))))))
+
+  pub found : {c : Command} {next : ℕ} → commandAt kind bytes at ≡ Found c next → Stands kind bytes at c next
+  found e = subst (Right kind bytes at) e command-right
+
+  pub stands : {c : Command} {next : ℕ} → Stands kind bytes at c next → commandAt kind bytes at ≡ Found c next
+  unfolding commandAt commandOf noteAfter
+  stands (is-end h e) = simp (lt-leb _ _ h, e)
+  stands (is-end-loop h e) = simp (lt-leb _ _ h, e)
+  stands (is-begin n s h e) =
+      let z : getD bytes at 0 ≡ 0x00 → ⊥ = λ k. omega arith in
+      let f : getD bytes at 0 ≡ 0xff → ⊥ = λ k. omega arith in
+      let q : getD bytes at 0 / 64 ≡ 3 = omega arith in
+      let r : getD bytes at 0 % 64 ≡ n = omega arith in
+      sym (rw (← r) (search picks depth 12))
+  stands (is-length l note s y h e g) =
+      let i : at < length bytes = omega arith in
+      let z : getD bytes at 0 ≡ 0x00 → ⊥ = λ k. omega arith in
+      let f : getD bytes at 0 ≡ 0xff → ⊥ = λ k. omega arith in
+      let q : getD bytes at 0 / 64 ≡ 3 → ⊥ = λ k. omega arith in
+      let p : getD bytes at 0 / 16 ≡ 0x0b = omega arith in
+      let r : getD bytes at 0 % 16 ≡ l = omega arith in
+      let w : isNote kind (getD bytes (at + 1) 0) ≡ true = rw g y in
+      sym (rw (← r, ← g) (search picks depth 12))
+  stands (is-note b p s y h e) =
+      let z : getD bytes at 0 ≡ 0x00 → ⊥ = λ k. omega arith in
+      let f : getD bytes at 0 ≡ 0xff → ⊥ = λ k. omega arith in
+      let q : getD bytes at 0 / 64 ≡ 3 → ⊥ = λ k. omega arith in
+      let g : getD bytes at 0 / 16 ≡ 0x0b → ⊥ = λ k. omega arith in
+      let k : getD bytes at 0 < 0x80 = omega arith in
+      let w : isNote kind (getD bytes at 0) ≡ true = rw e y in
+      sym (rw (← e) (search picks depth 12))
+
+  -- r is what `command_at` answers
+  module _ (r : Decoded) (q : r ≡ commandAt kind bytes at) (c : Command) (next : ℕ) (e : r ≡ Found c next) where
+    standing : Stands kind bytes at c next
+    standing = found (sym q ∙ e)
+
+    pub word-fits : wordOf c < 2 ^ 16
+    word-fits = fits standing

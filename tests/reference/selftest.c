@@ -1,0 +1,62 @@
+/* The reference against the papers' own samples. */
+#include "selftest.h"
+
+#include <stdlib.h>
+#include <string.h>
+
+static const char zero_bank_lines[] =
+    "0 refuse 9\n1 refuse 9\n2 refuse 9\n3 refuse 9\n4 refuse 9\n5 refuse 9\n"
+    "6 refuse 9\n7 refuse 9\n8 refuse 9\n9 refuse 9\n10 refuse 9\n11 refuse 9\n";
+
+static void expect_cues(const uint8_t *bytes, size_t len, const char *wanted)
+{
+    char got[1024];
+    FILE *file = tmpfile();
+    CHECK(file != NULL);
+    if (file == NULL)
+        return;
+    ref_print_cues(file, bytes, len);
+    rewind(file);
+    size_t n = fread(got, 1, sizeof got - 1, file);
+    got[n] = '\0';
+    fclose(file);
+    CHECK(strcmp(got, wanted) == 0);
+}
+
+static void test_cues(void)
+{
+    static const uint8_t zeros[REF_BANK_SIZE + 1];
+    expect_cues(zeros, REF_BANK_SIZE, zero_bank_lines);
+    expect_cues(zeros, 0, "refuse 1\n");
+    expect_cues(zeros, REF_BANK_SIZE - 1, "refuse 1\n");
+    expect_cues(zeros, REF_BANK_SIZE + 1, "refuse 1\n");
+}
+
+/* All twelve offsets are 0, so each line tells the same track. */
+static void test_cue_lines(void)
+{
+    static const char *const data[2] = { "B0 2A 00", "B0 2A A0" };
+    static const char *const tails[2] = { "pass 6 2", "refuse 10 2 2 6" };
+    for (int i = 0; i < 2; i++) {
+        char wanted[1024];
+        size_t n = 0;
+        cart *c = new_cart();
+        use_channel(c, REF_TRIANGLE, data[i]);
+        for (int track = 0; track < 12; track++)
+            n += (size_t)snprintf(wanted + n, sizeof wanted - n, "%d %s\n", track, tails[i]);
+        expect_cues(c->bytes, REF_BANK_SIZE, wanted);
+        free(c);
+    }
+}
+
+int main(void)
+{
+    test_samples();
+    test_published();
+    test_refusals();
+    test_cues();
+    test_cue_lines();
+    test_random();
+    printf("selftest: %u checks, %u failed\n", checks_run, checks_failed);
+    return checks_failed == 0 ? 0 : 1;
+}

@@ -1,0 +1,55 @@
+/* Shared by the parts of the selftest. */
+#ifndef SELFTEST_H
+#define SELFTEST_H
+
+#include "reference.h"
+
+/* A bank with the published tables and one track's header to fill in. */
+typedef struct {
+    uint8_t bytes[REF_BANK_SIZE];
+    ref_places places;
+} cart;
+
+/* Where the tests put channel data, and the header fields they change. */
+#define DATA_ADDRESS(channel) (0x9000u + 0x200u * (unsigned)(channel))
+#define LAST_ADDRESS 0xBFFFu
+#define HEADER_WINDOW 0
+#define HEADER_RESTART 1
+#define HEADER_RELEASE 2
+#define HEADER_ENVELOPES 3
+#define HEADER_ADDRESSES 5
+
+extern const uint8_t published_lengths[REF_LENGTH_COUNT];
+extern unsigned checks_run, checks_failed;
+
+void check_that(int holds, const char *file, int line, const char *what);
+#define CHECK(holds) check_that((holds) ? 1 : 0, __FILE__, __LINE__, #holds)
+
+cart *new_cart(void);
+uint8_t *cart_at(cart *c, uint32_t address);
+uint8_t *cart_header(cart *c);
+void put_word(cart *c, uint32_t address, uint16_t word);
+size_t put_hex(cart *c, uint32_t address, const char *hex);
+void set_address(cart *c, int channel, uint16_t address);
+/* Puts the data at the channel's place and names it in the header. */
+void use_channel(cart *c, int channel, const char *hex);
+size_t hex_bytes(const char *hex, uint8_t *out);
+
+uint32_t period_of_key(unsigned key);
+uint8_t preset_byte(unsigned offset);
+
+int same_record(const ref_player *a, const ref_player *b);
+int same_verdict(const ref_verdict *a, const ref_verdict *b);
+void expect_pass(cart *c, uint64_t frame, uint32_t channel);
+void expect_fault(cart *c, uint32_t number, uint32_t channel, uint32_t offset, uint64_t frame);
+/* Runs start and frames 0 to n; the answer is frame n's. */
+uint32_t frame_after(cart *c, uint64_t n, ref_player *p, uint32_t *answer);
+
+uint32_t random_below(uint32_t limit);
+
+void test_samples(void);
+void test_published(void);
+void test_refusals(void);
+void test_random(void);
+
+#endif

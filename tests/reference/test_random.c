@@ -1,0 +1,208 @@
+/* Random tracks, records and data. */
+#include "selftest.h"
+
+#include <stdlib.h>
+#include <string.h>
+
+#define RANDOM_TRACKS 20000
+#define RANDOM_LISTS 20000
+#define RANDOM_RECORDS 20000
+#define LONGEST_DATA 24
+
+static uint8_t random_sound(ref_kind kind)
+{
+    static const uint8_t noise[4] = { 0x01, 0x04, 0x07, 0x0A };
+    if (kind == REF_NOISE)
+        return noise[random_below(4)];
+    return (uint8_t)(2 + 2 * random_below(63));
+}
+
+/* One random command, legal most of the time. Returns its size. */
+static size_t random_command(ref_kind kind, uint8_t *out)
+{
+    uint32_t die = random_below(200);
+    if (die < 70) {
+        out[0] = (uint8_t)(0xB0 + random_below(random_below(8) == 0 ? 16 : 4));
+        out[1] = random_below(60) == 0 ? (uint8_t)random_below(256) : random_sound(kind);
+        return 2;
+    }
+    if (die < 120)
+        out[0] = random_sound(kind);
+    else if (die < 155)
+        out[0] = 0xFF;
+    else if (die < 185)
+        out[0] = (uint8_t)(0xC0 + 1 + random_below(4));
+    else if (die < 187)
+        out[0] = 0xC0;
+    else if (die < 195)
+        out[0] = 0x00;
+    else
+        out[0] = (uint8_t)random_below(256);
+    return 1;
+}
+
+static void random_data(cart *c, int channel)
+{
+    uint32_t size = 1 + random_below(LONGEST_DATA);
+    uint32_t address = DATA_ADDRESS(channel);
+    uint8_t bytes[LONGEST_DATA + 2];
+    size_t n = 0;
+    /* most data begins with a length, so that 14 does not decide nearly all */
+    if (random_below(10) != 0) {
+        bytes[n++] = (uint8_t)(0xB0 + random_below(4));
+        bytes[n++] = random_sound(ref_kind_of(channel));
+    }
+    while (n < size)
+        n += random_command(ref_kind_of(channel), bytes + n);
+    if (random_below(8) == 0)
+        address = REF_BANK_END - size;
+    for (size_t i = 0; i < size; i++)
+        *cart_at(c, address + (uint32_t)i) = bytes[i];
+    set_address(c, channel, (uint16_t)address);
+}
+
+static void random_lengths(cart *c)
+{
+    for (uint32_t i = 0; i < REF_LENGTH_COUNT; i++) {
+        uint32_t length = random_below(40) == 0 ? 0 : 1 + random_below(4);
+        *cart_at(c, c->places.note_lengths + i) = (uint8_t)length;
+    }
+}
+
+static void random_envelopes(cart *c)
+{
+    for (uint32_t i = 0; i < 5; i++) {
+        uint32_t address = 0xA000 + 0x40 * i;
+        uint32_t size = random_below(5);
+        put_word(c, c->places.envelope_addresses + 2 * i, (uint16_t)address);
+        for (uint32_t j = 0; j < size; j++)
+            *cart_at(c, address + j) = (uint8_t)random_below(240);
+        *cart_at(c, address + size) = random_below(2) == 0 ? 0xF0 : 0xFF;
+    }
+}
+
+/* Places are moved so that data may stand at the bank's end. */
+static cart *random_cart(void)
+{
+    cart *c = new_cart();
+    memset(cart_at(c, 0xB800), 0, 0x800);
+    c->places.note_lengths = 0xA800;
+    c->places.header_block = 0xA900;
+    c->places.default1 = (uint8_t)random_below(256);
+    c->places.default2 = (uint8_t)(random_below(2) * random_below(256));
+    random_lengths(c);
+    random_envelopes(c);
+    cart_header(c)[HEADER_WINDOW] = (uint8_t)random_below(32);
+    cart_header(c)[HEADER_RESTART] = (uint8_t)random_below(2);
+    cart_header(c)[HEADER_RELEASE] = (uint8_t)(random_below(2) * random_below(256));
+    cart_header(c)[HEADER_ENVELOPES] = (uint8_t)random_below(6);
+    cart_header(c)[HEADER_ENVELOPES + 1] = (uint8_t)random_below(6);
+    uint32_t used = 1 + random_below(15);
+    for (int i = 0; i < REF_CHANNELS; i++)
+        if ((used >> i & 1) != 0)
+            random_data(c, i);
+    return c;
+}
+
+/* How often each verdict came, to see that the tracks are of many sorts. */
+static unsigned verdicts[REF_NO_ROOM + 1];
+
+static void test_checks_agree(void)
+{
+    uint64_t longest = 0;
+    for (int i = 0; i < RANDOM_TRACKS; i++) {
+        cart *c = random_cart();
+        ref_verdict by_frames = ref_check_by_frames(c->bytes, REF_BANK_SIZE, &c->places, 0);
+        ref_verdict by_channels = ref_check_by_channels(c->bytes, REF_BANK_SIZE, &c->places, 0);
+        CHECK(same_verdict(&by_frames, &by_channels));
+        verdicts[by_frames.number]++;
+        if (by_frames.frame > longest)
+            longest = by_frames.frame;
+        free(c);
+    }
+    printf("random tracks: %u pass", verdicts[0]);
+    for (int number = 1; number <= REF_NO_ROOM; number++)
+        if (verdicts[number] != 0)
+            printf(", %u refuse %d", verdicts[number], number);
+    printf("; longest %llu frames\n", (unsigned long long)longest);
+    CHECK(verdicts[0] > 1000);
+    for (int number = REF_NO_COMMAND; number <= REF_PAST_DATA; number++)
+        CHECK(verdicts[number] > 100);
+}
+
+static ref_channel random_channel(ref_kind kind)
+{
+    ref_channel ch;
+    ch.next = (uint16_t)random_below(random_below(8) == 0 ? 300 : LONGEST_DATA);
+    ch.loop_start = (uint16_t)random_below(random_below(8) == 0 ? 300 : LONGEST_DATA);
+    ch.counter = (uint8_t)random_below(random_below(8) == 0 ? 256 : 3);
+    ch.length = (uint8_t)random_below(5);
+    ch.left = (uint8_t)random_below(random_below(8) == 0 ? 6 : ch.length + 1u);
+    ch.sounding = random_below(8) == 0 ? (uint8_t)random_below(256) : random_sound(kind);
+    return ch;
+}
+
+static void test_one_record(cart *c, const ref_player *given)
+{
+    ref_player p = *given;
+    ref_player fresh = {0};
+    uint32_t answer[REF_ANSWER_WORDS];
+    uint32_t number = ref_frame(&p, c->bytes, REF_BANK_SIZE, &c->places, 0, answer);
+    CHECK((answer[0] == REF_REFUSED) == (number != 0));
+    CHECK(number == 0 || (number >= REF_NO_COMMAND && number <= REF_BAD_RECORD));
+    if (number != 0 || answer[0] == REF_STOPPED)
+        CHECK(same_record(&p, given));
+    if (answer[0] == REF_END) {
+        fresh.stopped = cart_header(c)[HEADER_RESTART] == 0;
+        CHECK(same_record(&p, &fresh));
+    }
+    if (answer[0] != REF_EVENTS)
+        for (int i = REF_ANSWER_PARTS; i < REF_ANSWER_WORDS; i++)
+            CHECK(answer[i] == 0);
+    verdicts[number]++;
+}
+
+/* Records as from a damaged save: what each outcome leaves behind. */
+static void test_records(void)
+{
+    memset(verdicts, 0, sizeof verdicts);
+    for (int i = 0; i < RANDOM_RECORDS; i++) {
+        cart *c = random_cart();
+        ref_player p = {0};
+        p.stopped = (uint8_t)(random_below(10) == 0 ? random_below(256) : 0);
+        for (int j = 0; j < REF_CHANNELS; j++)
+            p.channels[j] = random_channel(ref_kind_of(j));
+        test_one_record(c, &p);
+        free(c);
+    }
+    printf("random records: %u without refusal, %u refuse 16\n", verdicts[0], verdicts[REF_BAD_RECORD]);
+}
+
+/* What was read is written back as it was, up to and including the end. */
+static void test_lists(void)
+{
+    unsigned read = 0;
+    for (int i = 0; i < RANDOM_LISTS; i++) {
+        ref_kind kind = random_below(2) == 0 ? REF_MELODIC : REF_NOISE;
+        uint8_t data[LONGEST_DATA + 2], back[LONGEST_DATA + 2];
+        uint16_t words[LONGEST_DATA];
+        size_t n = 0, count, offset, written;
+        while (n < LONGEST_DATA)
+            n += random_command(kind, data + n);
+        if (ref_read_words(kind, data, LONGEST_DATA, words, LONGEST_DATA, &count, &offset) != 0)
+            continue;
+        read++;
+        CHECK(ref_write_words(kind, words, count, back, LONGEST_DATA, &written) == 0);
+        CHECK(memcmp(data, back, written) == 0 && back[written - 1] == 0);
+        CHECK(ref_write_words(kind, words, count, back, written - 1, &written) == REF_NO_ROOM);
+    }
+    printf("random lists: %u of %d read and written back\n", read, RANDOM_LISTS);
+    CHECK(read > 1000);
+}
+
+void test_random(void)
+{
+    test_checks_agree();
+    test_records();
+    test_lists();
+}

@@ -1,0 +1,154 @@
+/* Tools of the selftest. */
+#include "selftest.h"
+
+#include <stdlib.h>
+#include <string.h>
+
+const uint8_t published_lengths[REF_LENGTH_COUNT] = {
+    4,  8,  16, 32, 64, 24, 48, 12, 11, 5,   2,  6,  12, 24, 48, 96,
+    36, 72, 18, 16, 8,  3,  16, 7,  14, 28,  56, 112, 42, 84, 21, 18,
+    2,  3,  32, 252, 179, 173, 77, 6,
+};
+
+unsigned checks_run, checks_failed;
+
+void check_that(int holds, const char *file, int line, const char *what)
+{
+    checks_run++;
+    if (holds)
+        return;
+    checks_failed++;
+    fprintf(stderr, "%s:%d: does not hold: %s\n", file, line, what);
+}
+
+uint8_t *cart_at(cart *c, uint32_t address)
+{
+    return &c->bytes[address - REF_BANK_FIRST];
+}
+
+uint8_t *cart_header(cart *c)
+{
+    return cart_at(c, c->places.header_block);
+}
+
+void put_word(cart *c, uint32_t address, uint16_t word)
+{
+    *cart_at(c, address) = (uint8_t)(word & 0xFF);
+    *cart_at(c, address + 1) = (uint8_t)(word >> 8);
+}
+
+size_t hex_bytes(const char *hex, uint8_t *out)
+{
+    size_t n = 0;
+    while (*hex != '\0') {
+        char *after;
+        out[n++] = (uint8_t)strtoul(hex, &after, 16);
+        hex = after;
+    }
+    return n;
+}
+
+size_t put_hex(cart *c, uint32_t address, const char *hex)
+{
+    uint8_t bytes[REF_DATA_LIMIT];
+    size_t n = hex_bytes(hex, bytes);
+    memcpy(cart_at(c, address), bytes, n);
+    return n;
+}
+
+void set_address(cart *c, int channel, uint16_t address)
+{
+    put_word(c, c->places.header_block + HEADER_ADDRESSES + 2u * (unsigned)channel, address);
+}
+
+void use_channel(cart *c, int channel, const char *hex)
+{
+    put_hex(c, DATA_ADDRESS(channel), hex);
+    set_address(c, channel, (uint16_t)DATA_ADDRESS(channel));
+}
+
+uint32_t period_of_key(unsigned key)
+{
+    return 0x0700u + 3u * key;
+}
+
+uint8_t preset_byte(unsigned offset)
+{
+    return (uint8_t)(0x51u + 7u * offset);
+}
+
+/* Tempo 150 BPM, no restart, dynamic release, no envelopes, no channel used. */
+cart *new_cart(void)
+{
+    cart *c = calloc(1, sizeof *c);
+    if (c == NULL)
+        abort();
+    c->places = ref_published_places();
+    memcpy(cart_at(c, c->places.note_lengths), published_lengths, sizeof published_lengths);
+    for (unsigned key = 0; key < 64; key++) {
+        *cart_at(c, c->places.key_periods + 2 * key) = (uint8_t)(period_of_key(key) >> 8);
+        *cart_at(c, c->places.key_periods + 2 * key + 1) = (uint8_t)(period_of_key(key) & 0xFF);
+    }
+    for (unsigned i = 0; i < 13; i++)
+        *cart_at(c, c->places.noise_presets + i) = preset_byte(i);
+    cart_header(c)[HEADER_WINDOW] = 0x0B;
+    return c;
+}
+
+static int same_channel(const ref_channel *a, const ref_channel *b)
+{
+    return a->next == b->next && a->loop_start == b->loop_start && a->counter == b->counter
+        && a->length == b->length && a->left == b->left && a->sounding == b->sounding;
+}
+
+int same_record(const ref_player *a, const ref_player *b)
+{
+    for (int i = 0; i < REF_CHANNELS; i++)
+        if (!same_channel(&a->channels[i], &b->channels[i]))
+            return 0;
+    return a->stopped == b->stopped;
+}
+
+int same_verdict(const ref_verdict *a, const ref_verdict *b)
+{
+    return a->number == b->number && a->channel == b->channel && a->offset == b->offset
+        && a->frame == b->frame;
+}
+
+static void expect_verdict(cart *c, ref_verdict wanted)
+{
+    ref_verdict by_frames = ref_check_by_frames(c->bytes, REF_BANK_SIZE, &c->places, 0);
+    ref_verdict by_channels = ref_check_by_channels(c->bytes, REF_BANK_SIZE, &c->places, 0);
+    CHECK(same_verdict(&by_frames, &wanted));
+    CHECK(same_verdict(&by_channels, &wanted));
+}
+
+void expect_pass(cart *c, uint64_t frame, uint32_t channel)
+{
+    ref_verdict wanted = { 0, channel, 0, frame };
+    expect_verdict(c, wanted);
+}
+
+void expect_fault(cart *c, uint32_t number, uint32_t channel, uint32_t offset, uint64_t frame)
+{
+    ref_verdict wanted = { number, channel, offset, frame };
+    expect_verdict(c, wanted);
+}
+
+uint32_t frame_after(cart *c, uint64_t n, ref_player *p, uint32_t *answer)
+{
+    uint32_t number = ref_start(p, c->bytes, REF_BANK_SIZE, &c->places, 0);
+    for (uint64_t i = 0; i <= n; i++)
+        number = ref_frame(p, c->bytes, REF_BANK_SIZE, &c->places, 0, answer);
+    return number;
+}
+
+/* A fixed sequence, so that a failure comes again. */
+uint32_t random_below(uint32_t limit)
+{
+    static uint64_t state = 0x9E3779B97F4A7C15u;
+    state ^= state << 13;
+    state ^= state >> 7;
+    state ^= state << 17;
+    return (uint32_t)((state >> 32) % limit);
+}
