@@ -209,6 +209,45 @@ static void test_commands(void)
     expect_walk(REF_NOISE, "80", REF_NO_COMMAND, 0, 0, 0);
 }
 
+static int channel_is(const ref_channel *ch, ref_channel wanted)
+{
+    return ch->next == wanted.next && ch->loop_start == wanted.loop_start && ch->counter == wanted.counter
+        && ch->length == wanted.length && ch->left == wanted.left && ch->sounding == wanted.sounding;
+}
+
+/* From a record, to the record: fields next, loop, counter, length, left, sounding. */
+static void expect_until(const char *hex, ref_channel from, ref_channel to, uint32_t number, int ended,
+                         uint32_t offset, uint32_t count)
+{
+    uint8_t data[REF_DATA_LIMIT];
+    size_t n = hex_bytes(hex, data);
+    int got_ended;
+    uint32_t got_offset, got_count;
+    ref_channel ch = from;
+    CHECK(ref_read_until(REF_MELODIC, data, n, published_lengths, 0, &ch, &got_ended, &got_offset, &got_count)
+          == number);
+    CHECK(got_ended == ended && got_offset == offset && got_count == count);
+    CHECK(channel_is(&ch, to));
+}
+
+static void test_read_until(void)
+{
+    ref_channel fresh = { 0, 0, 0, 0, 0, 0 };
+    expect_until("B0 2A 00", fresh, (ref_channel){ 2, 0, 0, 4, 0, 0x2A }, 0, 0, 0, 1);
+    expect_until("C3 B1 00", fresh, (ref_channel){ 3, 1, 2, 8, 0, 0x00 }, 0, 0, 0, 2);
+    /* left is not looked at */
+    expect_until("2A", (ref_channel){ 0, 9, 3, 5, 77, 2 }, (ref_channel){ 1, 9, 3, 5, 77, 0x2A }, 0, 0, 0, 1);
+    /* the end and a refused command leave the channel as it was before them */
+    expect_until("C2 FF 00", fresh, (ref_channel){ 2, 1, 0, 0, 0, 0 }, 0, 1, 2, 4);
+    expect_until("C2 B0 81", fresh, (ref_channel){ 1, 1, 1, 0, 0, 0 }, REF_NO_SUCH_KEY, 0, 2, 1);
+    expect_until("C2 2A", fresh, (ref_channel){ 1, 1, 1, 0, 0, 0 }, REF_NO_LENGTH_YET, 0, 1, 1);
+    /* FF with a counter jumps to the record's loop offset, forward or past the data too */
+    expect_until("FF 80 2A", (ref_channel){ 0, 2, 1, 5, 0, 2 }, (ref_channel){ 3, 2, 0, 5, 0, 0x2A }, 0, 0, 0, 2);
+    expect_until("FF 00", (ref_channel){ 0, 200, 1, 5, 0, 2 }, (ref_channel){ 200, 200, 0, 5, 0, 2 },
+                 REF_PAST_DATA, 0, 200, 1);
+    expect_until("C2 FF 00", (ref_channel){ 1, 0, 1, 0, 0, 0 }, (ref_channel){ 2, 1, 0, 0, 0, 0 }, 0, 1, 2, 5);
+}
+
 static void expect_reading(ref_kind kind, const char *hex, size_t room, uint32_t number, size_t offset,
                            size_t count)
 {
@@ -226,14 +265,14 @@ static void expect_reading(ref_kind kind, const char *hex, size_t room, uint32_t
 static void test_reading(void)
 {
     expect_reading(REF_MELODIC, "C3 B0 2A 02 FF 00 81", 5, 0, 0, 5);
-    expect_reading(REF_MELODIC, "C3 B0 2A 02 FF 00 81", 4, REF_NO_ROOM, 0, 4);
+    expect_reading(REF_MELODIC, "C3 B0 2A 02 FF 00 81", 4, REF_NO_ROOM, 0, 0);
     expect_reading(REF_MELODIC, "00", 0, REF_NO_ROOM, 0, 0);
     expect_reading(REF_MELODIC, "80", 0, REF_NO_COMMAND, 0, 0);
-    expect_reading(REF_MELODIC, "2A B0", 1, REF_PAST_DATA, 2, 1);
-    expect_reading(REF_MELODIC, "2A B0 81", 1, REF_NO_SUCH_KEY, 2, 1);
-    expect_reading(REF_MELODIC, "2A 03", 1, REF_NO_SUCH_KEY, 1, 1);
-    expect_reading(REF_MELODIC, "2A", 1, REF_PAST_DATA, 1, 1);
-    expect_reading(REF_MELODIC, "2A 2C 81", 1, REF_NO_ROOM, 0, 1);
+    expect_reading(REF_MELODIC, "2A B0", 1, REF_PAST_DATA, 2, 0);
+    expect_reading(REF_MELODIC, "2A B0 81", 1, REF_NO_SUCH_KEY, 2, 0);
+    expect_reading(REF_MELODIC, "2A 03", 1, REF_NO_SUCH_KEY, 1, 0);
+    expect_reading(REF_MELODIC, "2A", 1, REF_PAST_DATA, 1, 0);
+    expect_reading(REF_MELODIC, "2A 2C 81", 1, REF_NO_ROOM, 0, 0);
     expect_reading(REF_MELODIC, "", 0, REF_PAST_DATA, 0, 0);
     expect_reading(REF_MELODIC, "B0 00 00", 2, 0, 0, 2);
     expect_reading(REF_NOISE, "B0 00 00", 2, REF_NO_SUCH_KEY, 1, 0);
@@ -261,6 +300,21 @@ static void test_long_data(void)
     CHECK(ref_write_words(REF_MELODIC, words, 256, data, 255, &count) == REF_NO_ROOM);
     words[0] = 0x2AB0;
     CHECK(ref_write_words(REF_MELODIC, words, 256, data, 300, &count) == REF_NO_ROOM);
+}
+
+static void test_long_walk(void)
+{
+    uint8_t data[300];
+    ref_channel ch = { 255, 0, 0, 4, 0, 2 };
+    int ended;
+    uint32_t offset, count;
+    memset(data, 0xFF, sizeof data);
+    data[256] = 0x00;
+    ref_timeline line = ref_walk(REF_MELODIC, data, 300, published_lengths, 0);
+    CHECK(line.number == REF_PAST_DATA && line.offset == 256 && line.commands == 256);
+    CHECK(ref_read_until(REF_MELODIC, data, 300, published_lengths, 0, &ch, &ended, &offset, &count)
+          == REF_PAST_DATA);
+    CHECK(!ended && offset == 256 && count == 1 && ch.next == 256);
 }
 
 static void test_writing(void)
@@ -292,7 +346,9 @@ void test_refusals(void)
     test_records();
     test_unused_part();
     test_commands();
+    test_read_until();
     test_reading();
     test_long_data();
+    test_long_walk();
     test_writing();
 }

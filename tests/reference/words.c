@@ -59,13 +59,11 @@ static uint32_t command_at(ref_kind kind, const uint8_t *bytes, size_t len, size
     return ref_is_sound(kind, bytes[at + 1]) ? 0 : REF_NO_SUCH_KEY;
 }
 
-uint32_t ref_read_words(ref_kind kind, const uint8_t *bytes, size_t len, uint16_t *words, size_t room,
-                        size_t *count, size_t *offset)
+/* The words of the data, up to and including the first end, in a list of their own. */
+static uint32_t read_list(ref_kind kind, const uint8_t *bytes, size_t len, uint16_t list[REF_DATA_LIMIT],
+                          size_t room, size_t *count, size_t *offset)
 {
     size_t at = 0;
-    *count = 0;
-    if (len > REF_DATA_LIMIT)
-        len = REF_DATA_LIMIT;
     for (;;) {
         size_t size;
         uint32_t number = command_at(kind, bytes, len, at, &size, offset);
@@ -77,12 +75,30 @@ uint32_t ref_read_words(ref_kind kind, const uint8_t *bytes, size_t len, uint16_
         uint16_t word = bytes[at];
         if (size == 2)
             word = (uint16_t)(bytes[at] + 256 * bytes[at + 1]);
-        words[*count] = word;
+        list[*count] = word;
         *count += 1;
         if (word == 0)
             return 0;
         at += size;
     }
+}
+
+uint32_t ref_read_words(ref_kind kind, const uint8_t *bytes, size_t len, uint16_t *words, size_t room,
+                        size_t *count, size_t *offset)
+{
+    uint16_t list[REF_DATA_LIMIT];
+    *count = 0;
+    if (len > REF_DATA_LIMIT)
+        len = REF_DATA_LIMIT;
+    uint32_t number = read_list(kind, bytes, len, list, room, count, offset);
+    if (number != 0) {
+        /* a refused reading changes nothing in the lent buffer */
+        *count = 0;
+        return number;
+    }
+    for (size_t i = 0; i < *count; i++)
+        words[i] = list[i];
+    return 0;
 }
 
 /* How many bytes the word's command has; 0 for a word that is no command. */

@@ -1,5 +1,5 @@
 -- Document 01, 'Commands as words'.
-use Prim.Native.Nat.{ℕ, zero, suc, _/_, _%_, min}
+use Prim.Native.Nat.{ℕ, zero, suc, _/_, _%_}
 use mathlib.Core.Bool.{Bool, true, false}
 use mathlib.Core.List.{List, [], _∷_, _++_}
 use mathlib.Core.Path.{_≡_}

@@ -4,7 +4,7 @@ use crate::command::{Command, Decoded, Finish, Kind};
 
 ghost use mathlib.Core.Path.{_≡_};
 ghost use Prim.Native.Nat.{_+_, _<_, _^_};
-ghost use lib.ListN.{length, set, take};
+ghost use lib.ListN.{set, take};
 ghost use lib.Seq.{sets};
 ghost use Rattle.metroid_format.specs.Command.{isEnd, wordOf};
 ghost use Rattle.metroid_format.specs.Words.{pair, commandOfWord, encoded, Encodes, Writes};
@@ -199,7 +199,8 @@ pub fn read_words(kind: Kind, bytes: &[u8], out: &mut [u16]) -> Reading
     let mut scratch = [0u16; 1];
     let found = decode(kind, data, &mut scratch);
     let count = found.count;
-    if out.len() < count {
+    let room = out.len();
+    if room < count {
         return Reading::NoRoom;
     }
     let finish = found.finish;

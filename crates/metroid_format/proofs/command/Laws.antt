@@ -1,14 +1,12 @@
 -- What stands where a command is found, and the other way round.
-use Prim.Native.Nat.{ℕ, _+_, _*_, _/_, _%_, _≤_, _<_, _^_}
-use mathlib.Core.Bool.{Bool, true, false}
-use mathlib.Core.List.{List, [], _∷_}
-use mathlib.Core.Path.{_≡_, refl, sym, ap, subst, _∙_}
+use Prim.Native.Nat.{ℕ, _+_, _/_, _%_, _≤_, _<_, _^_}
+use mathlib.Core.Bool.{true}
+use mathlib.Core.List.{List}
+use mathlib.Core.Path.{_≡_, refl, sym, subst, _∙_}
 use native.Mathlib.Omega.{arith}
-use borrow.Author.Tests.{eqb-true, eqb-false, leb-true, leb-false, lt-leb, ne-eqb, eq-eqb}
+use borrow.Author.Tests.{eqb-true, eqb-false, leb-true, leb-false, lt-leb}
 use lib.Dec.{leb, eqb, lit<}
 use lib.ListN.{length, getD}
-use Rattle.metroid_format.specs.Pick.{pick}
-use Rattle.metroid_format.specs.Number.{invalid-command, invalid-note, past-data}
 use Rattle.metroid_format.specs.Command.{commandAt, commandOf, noteAfter, isKey, isPreset, isNote, wordOf}
 use Rattle.metroid_format.specs.declared.command.Kind.{Kind}
 use Rattle.metroid_format.specs.declared.command.Kind.the-variants.{Melodic, Noise}
@@ -30,7 +28,7 @@ abbrev Right : Kind → List ℕ → ℕ → Decoded → Type 0
 Right kind bytes at (Found c next) = Stands kind bytes at c next
 Right kind bytes at (Refused number offset) = Unit {0}
 
-note-small : (kind : Kind) (b : ℕ) → isNote kind b ≡ true → b < 0x80
+pub note-small : (kind : Kind) (b : ℕ) → isNote kind b ≡ true → b < 0x80
 unfolding isKey isPreset
 note-small Melodic b y =
     by-test (λ x. x ≡ true → b < 0x80) (eqb (b % 2) 0) (λ _ z. omega (arith, leb-true b 0x7e z)) (λ _ z. absurd (false-true z)) y

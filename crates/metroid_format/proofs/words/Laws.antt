@@ -2,7 +2,7 @@
 use Prim.Native.Nat.{ℕ, zero, suc, _+_, _-_, _*_, _/_, _%_, _^_, _≤_, _<_}
 use mathlib.Core.Bool.{Bool, true, false}
 use mathlib.Core.List.{List, [], _∷_, _++_, append-nil}
-use mathlib.Core.Path.{_≡_, refl, sym, ap, subst, _∙_}
+use mathlib.Core.Path.{_≡_, refl, sym, subst, _∙_}
 use native.Mathlib.Nat.{sub-zero, zero-add}
 use native.Mathlib.Numerals.{add-one}
 use native.Mathlib.Omega.{arith}
@@ -45,7 +45,7 @@ module _ (kind : Kind) (w : ℕ) (r : Decoded) (q : r ≡ commandAt kind (pair w
     word-other g = rw (← q, e) (simp (ne-eqb (wordOf c) w (λ h. g (f ∙ h))))
 
 module _ (kind : Kind) (bytes : List ℕ) where
-  straight-next : (left l at : ℕ) (d : Decoded) → left ≡ suc l → commandAt kind bytes at ≡ d → straightFrom kind bytes left at ≡ straightBy (λ next. straightFrom kind bytes l next) d
+  pub straight-next : (left l at : ℕ) (d : Decoded) → left ≡ suc l → commandAt kind bytes at ≡ d → straightFrom kind bytes left at ≡ straightBy (λ next. straightFrom kind bytes l next) d
   unfolding straightFrom
   straight-next left l at d e f = rw (e, f)
 
@@ -120,7 +120,7 @@ word-right kind w (Found c next) e =
 word-right kind w (Refused number offset) e = rw e tt
 
 -- a word that stands for a command is read from both its bytes or its first
-word-stands : (kind : Kind) (w : ℕ) {c : Command} {next : ℕ} → commandOfWord kind w ≡ Found c next → Stands kind (pair w) 0 c next × (wordOf c ≡ w)
+pub word-stands : (kind : Kind) (w : ℕ) {c : Command} {next : ℕ} → commandOfWord kind w ≡ Found c next → Stands kind (pair w) 0 c next × (wordOf c ≡ w)
 word-stands kind w e = subst (Word kind w) e (word-right kind w (commandAt kind (pair w) 0) refl)
 
 empty-drop : (i : ℕ) (l : List ℕ) → i ≤ length l → isEmpty (drop i l) ≡ eqb i (length l)

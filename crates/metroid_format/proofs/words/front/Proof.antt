@@ -1,7 +1,7 @@
 use borrow.Author.Needs.{needs}
 use native.Mathlib.Omega.{arith}
 use lib.ListN.{length-take}
-use lib.Seq.{take-all, length-take-le}
+use lib.Seq.{take-all}
 use mathlib.Core.Path.{sym}
 use Rattle.metroid_format.proofs.words.front.Statement.{statement}
 use Rattle.metroid_format.proofs.words.front.Tie as tie
