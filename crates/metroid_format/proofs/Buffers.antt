@@ -25,8 +25,8 @@ written-none before whole = record { count = omega arith; buffer = refl; size = 
 
 pub written-more : {before whole now rest : List ℕ} {n : ℕ} (vs : List ℕ) → Written before whole now n (vs ++ rest) → Written before whole (sets now n vs) (n + length vs) rest
 written-more {now = now} {rest = rest} {n = n} vs w =
-    record
-      { count = omega (arith, w .count, length-append vs rest)
-      ; buffer = w .buffer ∙ sets-append now n vs rest
-      ; size = length-sets now n vs ∙ w .size
-      }
+    record {
+      count = omega (arith, w .count, length-append vs rest);
+      buffer = w .buffer ∙ sets-append now n vs rest;
+      size = length-sets now n vs ∙ w .size;
+    }

@@ -13,6 +13,10 @@ use Rattle.metroid_format.specs.declared.command.Command.the-variants.{E
 use Rattle.metroid_format.specs.declared.command.Decoded.{Decoded}
 use Rattle.metroid_format.specs.declared.command.Decoded.the-variants.{Found, Refused}
 
+-- data runs for so many bytes at most
+abbrev pub data-limit : ℕ
+data-limit = 256
+
 -- an even byte to $7E is key byte/2
 unfoldable pub isKey : ℕ → Bool
 isKey b = pick (eqb (b % 2) 0) (leb b 0x7e) false

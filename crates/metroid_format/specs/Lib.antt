@@ -2,3 +2,7 @@ pub mod Pick
 pub mod Number
 pub mod Command
 pub mod Words
+pub mod Bank
+pub mod Header
+pub mod Channel
+pub mod Timeline

@@ -19,10 +19,6 @@ use Rattle.metroid_format.specs.declared.words.Reading.the-variants.{Wro
 use Rattle.metroid_format.specs.declared.words.Writing.{Writing}
 use Rattle.metroid_format.specs.declared.words.Writing.the-variants.{Wrote as Put, InvalidWord, NoRoom as NoSpace}
 
--- the bytes of one channel's data
-abbrev pub data-limit : ℕ
-data-limit = 256
-
 -- the words of the commands up to the first end or refusal, and which of the two it was
 pub record Straight : Type 0 where
   pub words : List ℕ

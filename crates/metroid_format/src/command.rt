@@ -4,6 +4,9 @@ ghost use mathlib.Core.Path.{_≡_};
 ghost use Rattle.metroid_format.specs.Command.{commandAt, isKey, isPreset, isNote, noteAfter, told};
 ghost use Rattle.metroid_format.specs.Number.{Answers};
 
+// The bytes of one channel's data.
+pub const DATA_LIMIT: usize = 256;
+
 pub const INVALID_COMMAND: u32 = 10;
 
 pub const INVALID_NOTE: u32 = 11;

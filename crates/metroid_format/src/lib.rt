@@ -1,4 +1,8 @@
-// The Metroid music format: what stands in a channel's bytes, and its commands as words.
+// The Metroid music format: a bank and its headers, a channel's bytes as commands and as words, and one channel's walk.
+pub mod bank;
+pub mod channel;
 pub mod command;
 pub mod field;
+pub mod header;
+pub mod timeline;
 pub mod words;

@@ -1,17 +1,18 @@
 // Commands as 16-bit words: straight reading, which runs no loop, and writing.
+use crate::bank;
 use crate::command;
-use crate::command::{Command, Decoded, Finish, Kind};
-
+use crate::command::Command;
+use crate::command::DATA_LIMIT;
+use crate::command::Decoded;
+use crate::command::Finish;
+use crate::command::Kind;
 ghost use mathlib.Core.Path.{_≡_};
 ghost use Prim.Native.Nat.{_+_, _<_, _^_};
 ghost use lib.ListN.{set, take};
 ghost use lib.Seq.{sets};
-ghost use Rattle.metroid_format.specs.Command.{isEnd, wordOf};
+ghost use Rattle.metroid_format.specs.Command.{data-limit, isEnd, wordOf};
 ghost use Rattle.metroid_format.specs.Words.{pair, commandOfWord, encoded, Encodes, Writes};
-ghost use Rattle.metroid_format.specs.Words.{data-limit, straight, Decodes, Reads};
-
-// The bytes of one channel's data.
-pub const DATA_LIMIT: usize = 256;
+ghost use Rattle.metroid_format.specs.Words.{straight, Decodes, Reads};
 
 pub const INVALID_WORD: u32 = 17;
 
@@ -79,15 +80,6 @@ fn put_byte(out: &mut [u8], at: usize, b: u8)
     if at < out.len() {
         out[at] = b;
     }
-}
-
-fn front(bytes: &[u8]) -> &[u8]
-    ensures { λ r. ⌜ now r ≡ take data-limit (now (bytes .entry)) ⌝ }
-{
-    if DATA_LIMIT < bytes.len() {
-        return &bytes[..DATA_LIMIT];
-    }
-    bytes
 }
 
 // The words of the data up to its end or first refusal, written as far as they fit.
@@ -195,7 +187,7 @@ fn encode(kind: Kind, words: &[u16], out: &mut [u8]) -> Encoding
 pub fn read_words(kind: Kind, bytes: &[u8], out: &mut [u16]) -> Reading
     ensures { λ r. ⌜ Reads data-limit kind (now (bytes .entry)) (now (out .entry)) r (now (out .exit)) ⌝ }
 {
-    let data = front(bytes);
+    let data = bank::part(bytes, 0, DATA_LIMIT);
     let mut scratch = [0u16; 1];
     let found = decode(kind, data, &mut scratch);
     let count = found.count;

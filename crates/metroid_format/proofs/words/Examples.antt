@@ -2,9 +2,9 @@
 use Prim.Native.Nat.{ℕ}
 use mathlib.Core.List.{List, [], _∷_, map}
 use mathlib.Core.Path.{_≡_, refl}
-use Rattle.metroid_format.specs.Number.{Told}
 use Rattle.metroid_format.specs.Command.{isKey, isPreset, noteAfter, commandOf, commandAt}
-use Rattle.metroid_format.specs.Words.{data-limit, straight, straightFrom, readWords, wordsLeft, toldReading, commandOfWord, encoded, writeWords, bytesLeft, toldWriting}
+use Rattle.metroid_format.specs.Command.{data-limit}
+use Rattle.metroid_format.specs.Words.{straightFrom, readWords, wordsLeft, toldReading, commandOfWord, encoded, writeWords, bytesLeft, toldWriting}
 use Rattle.metroid_format.specs.declared.command.Kind.{Kind}
 use Rattle.metroid_format.specs.declared.command.Kind.the-variants.{Melodic, Noise}
 use lib.ListN.{length}

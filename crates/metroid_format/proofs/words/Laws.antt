@@ -61,11 +61,11 @@ module _ (kind : Kind) (bytes : List ℕ) where
 
   pub midway-none : (before : List ℕ) → Midway before before 0 0
   midway-none before =
-      record
-        { within = omega arith
-        ; written = rw sub-zero (written-none before (straight kind bytes .words))
-        ; finish = rw sub-zero
-        }
+      record {
+        within = omega arith;
+        written = rw sub-zero (written-none before (straight kind bytes .words));
+        finish = rw sub-zero;
+      }
 
   module _ (before now : List ℕ) (n at : ℕ) (m : Midway before now n at) where
     rest-is : (s : Straight) → straightFrom kind bytes (length bytes - n) at ≡ s → Written before (straight kind bytes .words) now n (s .words) × (straight kind bytes .finish ≡ s .finish)

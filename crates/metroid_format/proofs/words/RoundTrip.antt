@@ -56,24 +56,24 @@ module _ (kind : Kind) (bytes : List ℕ) (at : ℕ) where
   placed (is-end h e) = record { next-is = refl; word-stands = is-end (omega arith) refl; same-bytes = first-byte 0x00 h e }
   placed (is-end-loop h e) = record { next-is = refl; word-stands = is-end-loop (omega arith) refl; same-bytes = first-byte 0xff h e }
   placed (is-begin n s h e) =
-      record
-        { next-is = refl
-        ; word-stands = is-begin n s (omega arith) (omega arith)
-        ; same-bytes = first-byte (0xc0 + n) h (omega arith)
-        }
+      record {
+        next-is = refl;
+        word-stands = is-begin n s (omega arith) (omega arith);
+        same-bytes = first-byte (0xc0 + n) h (omega arith);
+      }
   placed (is-length l note s y h e g) =
       let small = note-small kind note y in
-      record
-        { next-is = omega arith
-        ; word-stands = is-length l note s y (omega arith) (omega arith) (omega arith)
-        ; same-bytes = both-bytes (0xb0 + l + 256 * note) h (omega arith) (omega arith)
-        }
+      record {
+        next-is = omega arith;
+        word-stands = is-length l note s y (omega arith) (omega arith) (omega arith);
+        same-bytes = both-bytes (0xb0 + l + 256 * note) h (omega arith) (omega arith);
+      }
   placed (is-note b p s y h e) =
-      record
-        { next-is = refl
-        ; word-stands = is-note b p s y (omega arith) (omega arith)
-        ; same-bytes = first-byte b h (omega arith)
-        }
+      record {
+        next-is = refl;
+        word-stands = is-note b p s y (omega arith) (omega arith);
+        same-bytes = first-byte b h (omega arith);
+      }
 
   -- bytes that stand there too
   module _ (n : ℕ) (other : List ℕ) (e : take n (drop at bytes) ≡ take n other) (i : ℕ) (h : i < n) (j : i < length other) where
@@ -163,10 +163,10 @@ module _ (kind : Kind) (bytes : List ℕ) where
   again-more at next c ws p b a =
       let e = encoded-word kind c ws false (p .word-stands) b in
       let q : at + length (take (sizeOf c) (pair (wordOf c))) ≡ next = rw (length-bytes c) (sym (p .next-is)) in
-      record
-        { valid = rw e (a .valid)
-        ; same = rw e (within-join (take (sizeOf c) (pair (wordOf c))) (encoded kind ws .bytes) bytes at (placed-within at next c p) (rw q (a .same)))
-        }
+      record {
+        valid = rw e (a .valid);
+        same = rw e (within-join (take (sizeOf c) (pair (wordOf c))) (encoded kind ws .bytes) bytes at (placed-within at next c p) (rw q (a .same)));
+      }
 
   module _ (at : ℕ) (go : ℕ → Straight) (rest : (next : ℕ) → go next .finish ≡ Ended → Again next (go next .words)) where
     again-after : (c : Command) (next : ℕ) (b : Bool) → isEnd c ≡ b → Stands kind bytes at c next
@@ -197,18 +197,18 @@ read-then-write limit kind bytes room count e =
     let size = length (encoded kind (straight kind part .words) .bytes) in
     let l = within-length (encoded kind (straight kind part .words) .bytes) part 0 (a .same) in
     let m : size ≤ limit = omega (arith, l, length-take limit bytes) in
-    record
-      { size = size
-      ; writes = λ room′ h. rw (a .valid) (simp (le-leb size room′ h, le-leb size limit m))
-      ; same = sym (a .same) ∙ take-take size limit bytes m
-      }
+    record {
+      size = size;
+      writes = λ room′ h. rw (a .valid) (simp (le-leb size room′ h, le-leb size limit m));
+      same = sym (a .same) ∙ take-take size limit bytes m;
+    }
 
 within-split : (xs ys l : List ℕ) (at : ℕ) → Within (xs ++ ys) l at → Within xs l at × Within ys l (at + length xs)
 unfolding Within
 within-split xs ys l at p =
     let whole : take (length xs + length ys) (drop at l) ≡ xs ++ ys = rw length-append at p in
     let first : take (length xs) (drop at l) ≡ xs =
-        sym (take-take (length xs) (length xs + length ys) (drop at l) (omega arith)) ∙ ap (λ (k : List ℕ). take (length xs) k) whole ∙ take-append-seam xs ys in
+    sym (take-take (length xs) (length xs + length ys) (drop at l) (omega arith)) ∙ ap (λ (k : List ℕ). take (length xs) k) whole ∙ take-append-seam xs ys in
     let joined : xs ++ take (length ys) (drop (length xs) (drop at l)) ≡ xs ++ ys = rw (take-add (length xs) (length ys) (drop at l), first) at whole in
     (first, rw (← drop-drop (length xs) at l) (sym (drop-append-seam xs _) ∙ ap (λ (k : List ℕ). drop (length xs) k) joined ∙ drop-append-seam xs ys))
 

@@ -1,0 +1,148 @@
+-- What holds of a track that opening gives.
+use Prim.Native.Nat.{ℕ, _+_, _/_, _<_, _≤_}
+use mathlib.Core.Bool.{Bool, true, false}
+use mathlib.Core.List.{List, [], _∷_}
+use mathlib.Core.Path.{_≡_, refl}
+use native.Mathlib.Omega.{arith}
+use borrow.Author.Tests.{eqb-true, leb-true}
+use borrow.Author.Needs.{needs}
+use lib.Dec.{eqb, leb, ltb}
+use lib.ListN.{length, getD}
+use Rattle.metroid_format.specs.Pick.{pick}
+use Rattle.metroid_format.specs.Number.{
+  wrong-size,
+  table-outside,
+  no-track,
+  header-outside,
+  window-too-high,
+  envelope-too-high,
+  no-envelope-end,
+  channel-outside,
+}
+use Rattle.metroid_format.specs.Bank.{bank-size, bank-start, bank-end, all, offsetOf, within}
+use Rattle.metroid_format.specs.Header.{
+  placesFit,
+  windowFits,
+  envelopeNumbersFit,
+  squaresEnd,
+  addressFits,
+  addressesFit,
+  headerNumber,
+  numberOf,
+  headerOf,
+  headerAddress,
+  header-size,
+  unusedVoice,
+  usedVoice,
+  envelopeAddress,
+  voiceOf,
+  voicesOf,
+  trackOf,
+  openTrack,
+}
+use Rattle.metroid_format.specs.declared.command.Kind.{Kind}
+use Rattle.metroid_format.specs.declared.bank.Places.{Places}
+use Rattle.metroid_format.specs.declared.header.Voice.{Voice}
+use Rattle.metroid_format.specs.declared.header.Track.{Track}
+
+abbrev pub Every : (Voice → Type 0) → List Voice → Type 0
+Every P [] = Unit
+Every P (v ∷ vs) = P v × Every P vs
+
+pub record Opens (bank : List ℕ) (track : Track) : Type 0 where
+  pub size : length bank ≡ bank-size
+  pub four : length (track .voices) ≡ 4
+  pub low : track .window < 32
+  -- that of an unused voice is 0
+  pub starts : Every (λ v. v .«data» < bank-size) (track .voices)
+
+both : (a b : Bool) → pick a b false ≡ true → (a ≡ true) × (b ≡ true)
+both true b e = (refl, e)
+both false b e = let z : _≡_ {A = ℕ} 0 1 = cc in absurd (omega arith)
+
+passed : (test : Bool) (number rest : ℕ) → 0 < number → pick test rest number ≡ 0 → (test ≡ true) × (rest ≡ 0)
+passed true number rest h e = (refl, e)
+passed false number rest h e = absurd (omega arith)
+
+most : (test : Bool) (number rest : ℕ) → number ≤ 9 → rest ≤ 9 → pick test rest number ≤ 9
+most true number rest h k = k
+most false number rest h k = h
+
+offset-either : (unused none : Bool) (k : Kind) (address ctrl1 at : ℕ)
+    → (unused ≡ true → address ≡ 0)
+    → pick unused (unusedVoice k) (pick none (usedVoice k address ctrl1 false 0) (usedVoice k address ctrl1 true at)) .«data»
+    ≡ offsetOf address
+offset-either true none k address ctrl1 at h = rw (h refl)
+offset-either false true k address ctrl1 at h = refl
+offset-either false false k address ctrl1 at h = refl
+
+-- used or not, since the offset of address 0 is 0
+voice-offset : (bank : List ℕ) (table : ℕ) (k : Kind) (address number ctrl1 : ℕ)
+    → voiceOf bank table k address number ctrl1 .«data» ≡ offsetOf address
+unfolding voiceOf
+voice-offset bank table k address number ctrl1 =
+    offset-either (eqb address 0) (eqb number 0) k address ctrl1 (offsetOf (envelopeAddress bank table number))
+    (eqb-true address 0)
+
+address-offset : (address : ℕ) → addressFits address ≡ true → offsetOf address < bank-size
+unfolding addressFits within
+address-offset address e = by (eqb address 0) (eqb-true address 0) e
+  where
+    last : Bool
+    last = all (leb (address + 1) bank-end ∷ [])
+
+    by : (unused : Bool) → (unused ≡ true → address ≡ 0)
+        → pick unused true (pick (leb bank-start address) last false) ≡ true → offsetOf address < bank-size
+    by true h e = omega (arith, h refl)
+    by false h e = omega (arith, leb-true (address + 1) bank-end (both _ true (both (leb bank-start address) last e .1) .0))
+
+voices-start : (bank : List ℕ) (places : Places) (header : List ℕ)
+    → addressesFit header ≡ true → Every (λ v. v .«data» < bank-size) (voicesOf bank places header)
+unfolding addressesFit voicesOf
+voices-start bank places header e =
+    let square1 = both _ _ e in
+    let square2 = both _ _ (square1 .1) in
+    let triangle = both _ _ (square2 .1) in
+    let noise = both _ _ (triangle .1) in (
+      rw voice-offset (address-offset _ (square1 .0)),
+      (
+        rw voice-offset (address-offset _ (square2 .0)),
+        (
+          rw voice-offset (address-offset _ (triangle .0)),
+          (rw voice-offset (address-offset _ (noise .0)), tt),
+        ),
+      ),
+    )
+
+track-opens : (bank : List ℕ) (places : Places) (header : List ℕ)
+    → length bank ≡ bank-size
+    → headerNumber bank (places .«envelope_addresses») header ≡ 0
+    → Opens bank (trackOf bank places header)
+unfolding headerNumber windowFits trackOf voicesOf
+track-opens bank places header size e =
+    let low = passed (windowFits header) window-too-high _ (omega arith) e in
+    let numbers = passed (envelopeNumbersFit header) envelope-too-high _ (omega arith) (low .1) in
+    let ends = passed (squaresEnd bank (places .«envelope_addresses») header) no-envelope-end _ (omega arith) (numbers .1) in
+    let fits = passed (addressesFit header) channel-outside _ (omega arith) (ends .1) in
+    record {
+      size = size;
+      four = refl;
+      low = omega (arith, eqb-true (getD header 0 0 / 32) 0 (low .0));
+      starts = voices-start bank places header (fits .0);
+    }
+
+pub opens : (bank : List ℕ) (places : Places) (track : ℕ)
+    → openTrack bank places track .number ≡ 0
+    → Opens bank (openTrack bank places track .track)
+unfolding openTrack numberOf
+opens bank places track e =
+    let size = passed (eqb (length bank) bank-size) wrong-size _ (omega arith) e in
+    let tables = passed (placesFit places) table-outside _ (omega arith) (size .1) in
+    let below = passed (ltb track (places .«track_count»)) no-track _ (omega arith) (tables .1) in
+    let within = passed (within (headerAddress bank places track) header-size) header-outside _ (omega arith) (below .1) in
+    rw e (track-opens bank places (headerOf bank places track) (eqb-true _ _ (size .0)) (within .1))
+
+-- a number is 0 or one of 1 to 9
+pub number-most : (bank : List ℕ) (places : Places) (track : ℕ) → openTrack bank places track .number ≤ 9
+unfolding openTrack numberOf headerNumber
+number-most bank places track = search (most, needs) depth 30

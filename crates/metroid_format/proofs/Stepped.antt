@@ -1,0 +1,131 @@
+-- What a command can do to a cursor: the cases of `commandAt` and `stepOf`, with what holds in each.
+use Prim.Native.Nat.{ℕ, _+_, _-_, _/_, _%_, _≤_, _<_}
+use mathlib.Core.List.{List}
+use mathlib.Core.Path.{_≡_}
+use native.Mathlib.Omega.{arith}
+use borrow.Author.Tests.{leb-false, eqb-true, eqb-false}
+use lib.Dec.{leb, eqb}
+use lib.ListN.{length, getD}
+use Rattle.metroid_format.specs.Number.{past-data, invalid-command, invalid-note}
+use Rattle.metroid_format.specs.Command.{isNote, noteAfter, commandOf, commandAt}
+use Rattle.metroid_format.specs.Channel.{Source, lengthFault, lengthAt, counterOf, playedOf, playedBy, playedAt, stepBy, stepOf}
+use Rattle.metroid_format.proofs.Picks.{by-test}
+use Rattle.metroid_format.specs.declared.command.Kind.{Kind}
+use Rattle.metroid_format.specs.declared.command.Command.{Command}
+use Rattle.metroid_format.specs.declared.command.Decoded.{Decoded}
+use Rattle.metroid_format.specs.declared.channel.Frames.{Frames}
+use Rattle.metroid_format.specs.declared.channel.Cursor.{Cursor}
+use Rattle.metroid_format.specs.declared.channel.Played.{Played}
+use Rattle.metroid_format.specs.declared.channel.Step.{Step}
+
+data Decodes (bytes : List ℕ) (at : ℕ) : Decoded → Type 0 where
+  end : at < length bytes → Decodes bytes at (Decoded.Found Command.End (at + 1))
+  end-loop : at < length bytes → getD bytes at 0 ≡ 0xff → Decodes bytes at (Decoded.Found Command.EndLoop (at + 1))
+  begin-loop : (n : ℕ) → at < length bytes → (getD bytes at 0 ≡ 0xff → ⊥) → n < 64 → Decodes bytes at (Decoded.Found (Command.BeginLoop n) (at + 1))
+  long : (note : ℕ) → at + 1 < length bytes → getD bytes at 0 / 16 ≡ 0x0b →
+      Decodes bytes at (Decoded.Found (Command.Length (getD bytes at 0 % 16) note) (at + 1 + 1))
+  lone : (note : ℕ) → at < length bytes → Decodes bytes at (Decoded.Found (Command.Note note) (at + 1))
+  refused : (number place : ℕ) → Decodes bytes at (Decoded.Refused number place)
+
+decodes : (kind : Kind) (bytes : List ℕ) (at : ℕ) → Decodes bytes at (commandAt kind bytes at)
+unfolding commandAt commandOf noteAfter
+decodes kind bytes at =
+    by-test D (leb (length bytes) at) (λ _. refused past-data at) λ past.
+    let within : at < length bytes = leb-false _ _ past in
+    by-test D (eqb b 0x00) (λ _. end within) λ _.
+    by-test D (eqb b 0xff) (λ e. end-loop within (eqb-true _ _ e)) λ e.
+    by-test D (eqb (b / 64) 3) (λ _. begin-loop (b % 64) within (eqb-false _ _ e) (omega arith)) λ _.
+    by-test D (eqb (b / 16) 0x0b)
+    (λ l.
+    by-test D (leb (length bytes) (at + 1)) (λ _. refused past-data (at + 1)) λ past′.
+    by-test D (isNote kind (getD bytes (at + 1) 0))
+    (λ _. long _ (leb-false _ _ past′) (eqb-true _ _ l)) λ _. refused invalid-note (at + 1)) λ _.
+    by-test D (leb 0x80 b) (λ _. refused invalid-command at) λ _.
+    by-test D (isNote kind b) (λ _. lone b within) λ _. refused invalid-note at
+  where
+    D : Decoded → Type 0
+    D d = Decodes bytes at d
+
+    b : ℕ
+    b = getD bytes at 0
+
+counter-bound : (n : ℕ) → n < 64 → counterOf n ≤ 255
+unfolding counterOf
+counter-bound n h = by-test (λ m. m ≤ 255) (eqb n 0) (λ _. omega arith) λ _. omega arith
+
+-- a BL that passes 12 and 13 gives a length above 0
+length-above : (lengths : List ℕ) (window b : ℕ) → b / 16 ≡ 0x0b → lengthFault lengths window b ≡ 0 → 0 < lengthAt lengths window (b % 16)
+unfolding lengthFault
+length-above lengths window b e =
+    by-test (λ m. m ≡ 0 → 0 < lengthAt lengths window (b % 16)) (eqb (b / 16) 0x0b)
+    (λ _.
+    by-test (λ m. m ≡ 0 → 0 < lengthAt lengths window (b % 16)) (leb 40 (window + b % 16)) (λ _ z. absurd (omega arith)) λ _.
+    by-test (λ m. m ≡ 0 → 0 < lengthAt lengths window (b % 16)) (eqb (lengthAt lengths window (b % 16)) 0) (λ _ z. absurd (omega arith)) λ t _.
+    let above : lengthAt lengths window (b % 16) ≡ 0 → ⊥ = eqb-false _ _ t in
+    omega arith) λ t _.
+    absurd (eqb-false _ _ t e)
+
+-- a note is longer than 0 frames; what is not refused stands in the data
+pub data Plays (source : Source) (at : ℕ) (current : Frames) : Played → Type 0 where
+  end : at < length (source .bytes) → Plays source at current Played.End
+  end-loop : at < length (source .bytes) → getD (source .bytes) at 0 ≡ 0xff → Plays source at current (Played.EndLoop (at + 1))
+  begin-loop : (counter : ℕ) → at < length (source .bytes) → (getD (source .bytes) at 0 ≡ 0xff → ⊥) → counter ≤ 255 →
+      Plays source at current (Played.BeginLoop counter (at + 1))
+  long : (b entry : ℕ) → at + 1 < length (source .bytes) → 0 < getD (source .lengths) entry 0 →
+      Plays source at current (Played.Length b (record { count = getD (source .lengths) entry 0 }) (at + 1 + 1))
+  lone : (b : ℕ) → at < length (source .bytes) → 0 < current .count → Plays source at current (Played.Note b (at + 1))
+  refused : (number place : ℕ) → Plays source at current (Played.Refused number place)
+
+pub plays : (source : Source) (at : ℕ) (current : Frames) → Plays source at current (playedAt source at current)
+unfolding playedAt
+plays source at current =
+    by-test (Plays source at current) (eqb (lengthFault (source .lengths) (source .window) b) 0)
+    (λ z. from _ (decodes (source .kind) (source .bytes) at) (eqb-true _ _ z)) λ _.
+    refused _ at
+  where
+    b : ℕ
+    b = getD (source .bytes) at 0
+
+    from : (d : Decoded) → Decodes (source .bytes) at d → lengthFault (source .lengths) (source .window) b ≡ 0 →
+        Plays source at current (playedBy (playedOf (source .lengths) (source .window) at current) d)
+    from _ (Decodes.end h) z = end h
+    from _ (Decodes.end-loop h e) z = end-loop h e
+    from _ (Decodes.begin-loop n h e m) z = begin-loop (counterOf n) h e (counter-bound n m)
+    from _ (Decodes.long note h e) z = long note _ h (length-above (source .lengths) (source .window) b e z)
+    from _ (Decodes.lone note h) z =
+        by-test (Plays source at current) (eqb (current .count) 0) (λ _. refused _ at) λ t.
+        let above : current .count ≡ 0 → ⊥ = eqb-false _ _ t in
+        lone note h (omega arith)
+    from _ (Decodes.refused number place) z = refused number place
+
+pub data Stepped (source : Source) (cursor : Cursor) : Step → Type 0 where
+  begins : (counter : ℕ) → cursor .next < length (source .bytes) → (getD (source .bytes) (cursor .next) 0 ≡ 0xff → ⊥) → counter ≤ 255 →
+      Stepped source cursor
+      (Step.Again (record { next = cursor .next + 1; «loop_start» = cursor .next + 1; counter = counter; length = cursor .length }))
+  goes-on : cursor .next < length (source .bytes) → getD (source .bytes) (cursor .next) 0 ≡ 0xff → cursor .counter ≡ 0 →
+      Stepped source cursor
+      (Step.Again (record { next = cursor .next + 1; «loop_start» = cursor .«loop_start»; counter = cursor .counter; length = cursor .length }))
+  goes-back : cursor .next < length (source .bytes) → getD (source .bytes) (cursor .next) 0 ≡ 0xff → 0 < cursor .counter →
+      Stepped source cursor
+      (Step.Again (record { next = cursor .«loop_start»; «loop_start» = cursor .«loop_start»; counter = cursor .counter - 1; length = cursor .length }))
+  notes : (b after : ℕ) (frames : Frames) → cursor .next < after → after ≤ length (source .bytes) →
+      Stepped source cursor
+      (Step.Note b (record { next = after; «loop_start» = cursor .«loop_start»; counter = cursor .counter; length = frames }))
+  ends : cursor .next < length (source .bytes) → Stepped source cursor Step.End
+  refuses : (number at : ℕ) → Stepped source cursor (Step.Refused number at)
+
+pub stepped : (source : Source) (cursor : Cursor) → Stepped source cursor (stepOf source cursor)
+unfolding stepOf
+stepped source cursor = from _ (plays source (cursor .next) (cursor .length))
+  where
+    from : (p : Played) → Plays source (cursor .next) (cursor .length) p → Stepped source cursor (stepBy cursor p)
+    from _ (end h) = ends h
+    from _ (end-loop h e) =
+        by-test (λ (d : Cursor). Stepped source cursor (Step.Again d)) (eqb (cursor .counter) 0)
+        (λ t. goes-on h e (eqb-true _ _ t)) λ t.
+        let above : cursor .counter ≡ 0 → ⊥ = eqb-false _ _ t in
+        goes-back h e (omega arith)
+    from _ (begin-loop counter h e m) = begins counter h e m
+    from _ (long b entry h l) = notes b (cursor .next + 1 + 1) _ (omega arith) (omega arith)
+    from _ (lone b h l) = notes b (cursor .next + 1) (cursor .length) (omega arith) (omega arith)
+    from _ (refused number place) = refuses number place

@@ -1,0 +1,19 @@
+use borrow.Author.Needs.{needs}
+use Rattle.metroid_format.specs.Header.{envelopeEnds}
+use Rattle.metroid_format.proofs.Picks.{guards}
+use Rattle.metroid_format.proofs.header.envelope_ends.Statement.{statement}
+use Rattle.metroid_format.proofs.header.envelope_ends.Tie as tie
+
+pub envelope-ends-spec : {M : Type 1} → statement M
+unfolding envelopeEnds
+envelope-ends-spec =
+    tie.close
+    (tie.spec
+    (λ c. search (guards, needs) depth 12)
+    (λ c κs. search needs)
+    (λ c κs. search needs)
+    (λ c. rw (← (c .before .before .envelope-address .ensures)) (search (guards, needs) depth 12))
+    (λ c κs. search needs)
+    (λ c κs. search needs)
+    (λ c κs. search needs)
+    (λ c. rw (← (c .before .before .before .before .before .envelope-address .ensures), ← (c .before .before .offset-of .ensures), ← (c .before .part .ensures), ← (c .shows-end .ensures)) (search (guards, needs) depth 12)))

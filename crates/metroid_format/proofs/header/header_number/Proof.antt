@@ -1,0 +1,22 @@
+use borrow.Author.Needs.{needs}
+use Rattle.metroid_format.specs.Header.{headerNumber}
+use Rattle.metroid_format.proofs.Picks.{guards}
+use Rattle.metroid_format.proofs.header.header_number.Statement.{statement}
+use Rattle.metroid_format.proofs.header.header_number.Tie as tie
+
+pub header-number-spec : {M : Type 1} → statement M
+unfolding headerNumber
+header-number-spec =
+    tie.close
+    (tie.spec
+    (λ c κs. search needs)
+    (λ c. search (guards, needs) depth 20)
+    (λ c κs. search needs)
+    (λ c. search (guards, needs) depth 20)
+    (λ c κs. search needs)
+    (λ c. search (guards, needs) depth 20)
+    (λ c κs. search needs)
+    (λ c. search (guards, needs) depth 20)
+    (λ c κs. search needs)
+    (λ c. search (guards, needs) depth 20)
+    (λ c. search (guards, needs) depth 20))

@@ -1,0 +1,18 @@
+use borrow.Author.Needs.{needs}
+use Rattle.metroid_format.specs.Header.{voiceOf}
+use Rattle.metroid_format.proofs.Picks.{picks}
+use Rattle.metroid_format.proofs.header.voice_of.Statement.{statement}
+use Rattle.metroid_format.proofs.header.voice_of.Tie as tie
+
+pub voice-of-spec : {M : Type 1} → statement M
+unfolding voiceOf
+voice-of-spec =
+    tie.close
+    (tie.spec
+    (λ c κs. search needs)
+    (λ c. search (picks, needs) depth 12)
+    (λ c κs. search needs)
+    (λ c. rw (c .before .offset-of .ensures) (search (picks, needs) depth 12))
+    (λ c κs. search needs)
+    (λ c κs. search needs)
+    (λ c. rw (c .offset-of2 .ensures, c .before .envelope-address .ensures, c .before .before .before .offset-of .ensures) (search (picks, needs) depth 12)))

@@ -1,0 +1,47 @@
+-- Document 01, 'The bank and its places'.
+use Prim.Native.Nat.{ℕ, _+_, _-_, _*_}
+use mathlib.Core.Bool.{Bool, true, false}
+use mathlib.Core.List.{List, [], _∷_}
+use lib.Dec.{leb}
+use lib.ListN.{getD}
+use Rattle.metroid_format.specs.Pick.{pick}
+
+abbrev pub bank-size : ℕ
+bank-size = 16384
+
+-- a bank stands for addresses $8000 to $bfff
+abbrev pub bank-start : ℕ
+bank-start = 0x8000
+
+abbrev pub bank-end : ℕ
+bank-end = 0xc000
+
+-- the sizes of the tables that all tracks share: bytes, big-endian words, bytes, words
+abbrev pub lengths-size : ℕ
+lengths-size = 40
+
+abbrev pub periods-size : ℕ
+periods-size = 64 * 2
+
+abbrev pub presets-size : ℕ
+presets-size = 13
+
+abbrev pub envelopes-size : ℕ
+envelopes-size = 5 * 2
+
+-- the offset of an address in the bank
+abbrev pub offsetOf : ℕ → ℕ
+offsetOf address = address - bank-start
+
+-- each test of a list holds
+abbrev pub all : List Bool → Bool
+all [] = true
+all (test ∷ tests) = pick test (all tests) false
+
+-- n bytes from an address stand wholly within the bank
+unfoldable pub within : ℕ → ℕ → Bool
+within address n = all (leb bank-start address ∷ leb (address + n) bank-end ∷ [])
+
+-- words are little-endian
+unfoldable pub wordAt : List ℕ → ℕ → ℕ
+wordAt bytes at = getD bytes at 0 + 256 * getD bytes (at + 1) 0

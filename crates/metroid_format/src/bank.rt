@@ -1,0 +1,93 @@
+// A bank's bytes by offset and by address, and the places that the caller names.
+ghost use mathlib.Core.Path.{_≡_};
+ghost use lib.ListN.{getD, take, drop};
+ghost use Rattle.metroid_format.specs.Bank.{offsetOf, within, wordAt};
+
+pub const BANK_SIZE: usize = 16384;
+
+pub const BANK_START: usize = 0x8000;
+
+// The address after the last.
+pub const BANK_END: usize = 0xc000;
+
+// The sizes of the tables that all tracks share.
+pub const LENGTHS_SIZE: usize = 40;
+
+pub const PERIODS_SIZE: usize = 128;
+
+pub const PRESETS_SIZE: usize = 13;
+
+pub const ENVELOPES_SIZE: usize = 10;
+
+// Addresses, a number of tracks, and the default ctrl 1 byte of squares 1 and 2.
+pub struct Places {
+    pub header_offsets: u32,
+    pub header_block: u32,
+    pub note_lengths: u32,
+    pub key_periods: u32,
+    pub noise_presets: u32,
+    pub envelope_addresses: u32,
+    pub track_count: u32,
+    pub default1: u8,
+    pub default2: u8,
+}
+
+// The offset of an address in the bank.
+pub fn offset_of(address: usize) -> usize
+    ensures { λ r. ⌜ r ≡ offsetOf address ⌝ }
+{
+    if BANK_START <= address {
+        return address - BANK_START;
+    }
+    0
+}
+
+// Whether n bytes from an address stand wholly within the bank.
+pub fn fits(address: usize, n: usize) -> bool
+    ensures { λ r. ⌜ r ≡ within address n ⌝ }
+{
+    if address < BANK_START {
+        return false;
+    }
+    if BANK_END < address {
+        return false;
+    }
+    if BANK_END - address < n {
+        return false;
+    }
+    true
+}
+
+// The byte at an offset, 0 where there is none.
+pub fn byte(bytes: &[u8], at: usize) -> u8
+    ensures { λ r. ⌜ r ≡ getD (now (bytes .entry)) at 0 ⌝ }
+{
+    if bytes.len() <= at {
+        return 0;
+    }
+    bytes[at]
+}
+
+// The little-endian word at an offset, its bytes 0 where there are none.
+pub fn word(bytes: &[u8], at: usize) -> usize
+    ensures { λ r. ⌜ r ≡ wordAt (now (bytes .entry)) at ⌝ }
+{
+    if bytes.len() <= at {
+        return 0;
+    }
+    byte(bytes, at) as usize + 256 * (byte(bytes, at + 1) as usize)
+}
+
+// n bytes from an offset, or to the end, whichever is sooner.
+pub fn part(bytes: &[u8], at: usize, n: usize) -> &[u8]
+    ensures { λ r. ⌜ now r ≡ take n (drop at (now (bytes .entry))) ⌝ }
+{
+    if bytes.len() <= at {
+        return &bytes[..0];
+    }
+    if bytes.len() - at <= n {
+        return &bytes[at..];
+    }
+    let end = at + n;
+    &bytes[at..end]
+}

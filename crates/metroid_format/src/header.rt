@@ -1,0 +1,411 @@
+// A track's header, and what is refused of a bank, its places and a header.
+use crate::bank;
+use crate::bank::Places;
+use crate::command::Kind;
+ghost use mathlib.Core.Path.{_≡_};
+ghost use Prim.Native.Nat.{_<_};
+ghost use Rattle.metroid_format.specs.Bank.{wordAt};
+ghost use Rattle.metroid_format.specs.Header.{
+  tablesFit,
+  placesFit,
+  headerAddress,
+  headerOf,
+  windowFits,
+  envelopeNumbersFit,
+  showsEnd,
+  envelopeAddress,
+  envelopeEnds,
+  squareEnds,
+  squaresEnd,
+  addressFits,
+  addressesFit,
+  allUnused,
+  headerNumber,
+  numberOf,
+  unusedVoice,
+  voiceOf,
+  voicesOf,
+  trackOf,
+  blankTrack,
+  openTrack,
+  toldOpened,
+};
+ghost use Rattle.metroid_format.specs.Number.{Answers};
+
+pub const WRONG_SIZE: u32 = 1;
+
+pub const TABLE_OUTSIDE: u32 = 2;
+
+pub const NO_TRACK: u32 = 3;
+
+pub const HEADER_OUTSIDE: u32 = 4;
+
+pub const WINDOW_TOO_HIGH: u32 = 5;
+
+pub const ENVELOPE_TOO_HIGH: u32 = 6;
+
+pub const NO_ENVELOPE_END: u32 = 7;
+
+pub const CHANNEL_OUTSIDE: u32 = 8;
+
+pub const NO_CHANNEL: u32 = 9;
+
+const HEADER_SIZE: usize = 13;
+
+const LAST_ENVELOPE: u8 = 5;
+
+// F0 or FF stands in this many bytes of an envelope.
+const ENVELOPE_REACH: usize = 64;
+
+// A channel as the header has it, with offsets in the bank. An unused one has nothing but its kind.
+pub struct Voice {
+    pub used: bool,
+    pub kind: Kind,
+    pub data: usize,
+    pub has_envelope: bool,
+    pub envelope: usize,
+    // ctrl 1 of a square
+    pub default: u8,
+}
+
+// A header, and the offsets of the tables in the bank.
+pub struct Track {
+    pub window: u8,
+    pub restart: bool,
+    // the triangle's, FFFF LLLL
+    pub release: u8,
+    pub lengths: usize,
+    pub periods: usize,
+    pub presets: usize,
+    // square 1, square 2, triangle, noise
+    pub voices: [Voice; 4],
+}
+
+pub struct Opened {
+    // 0, or that of the refusal
+    pub number: u32,
+    // blank if refused
+    pub track: Track,
+}
+
+// The tables that all tracks share.
+fn tables_fit(p: Places) -> bool
+    ensures { λ r. ⌜ r ≡ tablesFit p ⌝ }
+{
+    if !bank::fits(p.note_lengths as usize, bank::LENGTHS_SIZE) {
+        return false;
+    }
+    if !bank::fits(p.key_periods as usize, bank::PERIODS_SIZE) {
+        return false;
+    }
+    if !bank::fits(p.noise_presets as usize, bank::PRESETS_SIZE) {
+        return false;
+    }
+    bank::fits(p.envelope_addresses as usize, bank::ENVELOPES_SIZE)
+}
+
+fn places_fit(p: Places) -> bool
+    ensures { λ r. ⌜ r ≡ placesFit p ⌝ }
+{
+    if p.track_count < 1 {
+        return false;
+    }
+    if 255 < p.track_count {
+        return false;
+    }
+    if !bank::fits(p.header_offsets as usize, p.track_count as usize) {
+        return false;
+    }
+    if !bank::fits(p.header_block as usize, 1) {
+        return false;
+    }
+    tables_fit(p)
+}
+
+fn header_address(bank: &[u8], places: Places, track: u32) -> usize
+    ensures { λ r. ⌜ r ≡ headerAddress (now (bank .entry)) places track ⌝ }
+{
+    let entry = bank::offset_of(places.header_offsets as usize + track as usize);
+    places.header_block as usize + bank::byte(bank, entry) as usize
+}
+
+fn header_of(bank: &[u8], places: Places, track: u32) -> &[u8]
+    ensures { λ r. ⌜ now r ≡ headerOf (now (bank .entry)) places track ⌝ }
+{
+    let at = bank::offset_of(header_address(bank, places, track));
+    bank::part(bank, at, HEADER_SIZE)
+}
+
+// The top three bits of +0 are 0.
+fn window_fits(header: &[u8]) -> bool
+    ensures { λ r. ⌜ r ≡ windowFits (now (header .entry)) ⌝ }
+{
+    bank::byte(header, 0) >> 5 == 0
+}
+
+fn envelope_numbers_fit(header: &[u8]) -> bool
+    ensures { λ r. ⌜ r ≡ envelopeNumbersFit (now (header .entry)) ⌝ }
+{
+    if LAST_ENVELOPE < bank::byte(header, 3) {
+        return false;
+    }
+    bank::byte(header, 4) <= LAST_ENVELOPE
+}
+
+// Whether F0 or FF stands in an envelope.
+fn shows_end(bytes: &[u8]) -> bool
+    ensures { λ r. ⌜ r ≡ showsEnd (now (bytes .entry)) ⌝ }
+{
+    let mut i = 0;
+    while i < bytes.len() {
+        let b = bytes[i];
+        if b == 0xf0 {
+            return true;
+        }
+        if b == 0xff {
+            return true;
+        }
+        i += 1;
+    }
+    false
+}
+
+fn envelope_address(bank: &[u8], table: u32, number: u8) -> usize
+    requires { ⌜ 0 < number ⌝ }
+    ensures { λ r. ⌜ r ≡ envelopeAddress (now (bank .entry)) table number ⌝ }
+{
+    let at = bank::offset_of(table as usize + 2 * (number as usize - 1));
+    bank::word(bank, at)
+}
+
+fn envelope_ends(bank: &[u8], table: u32, number: u8) -> bool
+    ensures { λ r. ⌜ r ≡ envelopeEnds (now (bank .entry)) table number ⌝ }
+{
+    if number == 0 {
+        return true;
+    }
+    let address = envelope_address(bank, table, number);
+    if !bank::fits(address, 1) {
+        return false;
+    }
+    shows_end(bank::part(bank, bank::offset_of(address), ENVELOPE_REACH))
+}
+
+// The envelope of a square by its number and the square's address.
+fn square_ends(bank: &[u8], table: u32, number: u8, address: usize) -> bool
+    ensures { λ r. ⌜ r ≡ squareEnds (now (bank .entry)) table number address ⌝ }
+{
+    if address == 0 {
+        return true;
+    }
+    envelope_ends(bank, table, number)
+}
+
+fn squares_end(bank: &[u8], table: u32, header: &[u8]) -> bool
+    ensures { λ r. ⌜ r ≡ squaresEnd (now (bank .entry)) table (now (header .entry)) ⌝ }
+{
+    if !square_ends(bank, table, bank::byte(header, 3), bank::word(header, 5)) {
+        return false;
+    }
+    square_ends(bank, table, bank::byte(header, 4), bank::word(header, 7))
+}
+
+fn address_fits(header: &[u8], at: usize) -> bool
+    ensures { λ r. ⌜ r ≡ addressFits (wordAt (now (header .entry)) at) ⌝ }
+{
+    let address = bank::word(header, at);
+    if address == 0 {
+        return true;
+    }
+    bank::fits(address, 1)
+}
+
+fn addresses_fit(header: &[u8]) -> bool
+    ensures { λ r. ⌜ r ≡ addressesFit (now (header .entry)) ⌝ }
+{
+    if !address_fits(header, 5) {
+        return false;
+    }
+    if !address_fits(header, 7) {
+        return false;
+    }
+    if !address_fits(header, 9) {
+        return false;
+    }
+    address_fits(header, 11)
+}
+
+fn all_unused(header: &[u8]) -> bool
+    ensures { λ r. ⌜ r ≡ allUnused (now (header .entry)) ⌝ }
+{
+    if bank::word(header, 5) != 0 {
+        return false;
+    }
+    if bank::word(header, 7) != 0 {
+        return false;
+    }
+    if bank::word(header, 9) != 0 {
+        return false;
+    }
+    bank::word(header, 11) == 0
+}
+
+// The first number of 5 to 9, or 0.
+fn header_number(bank: &[u8], table: u32, header: &[u8]) -> u32
+    ensures { λ r. ⌜ r ≡ headerNumber (now (bank .entry)) table (now (header .entry)) ⌝ }
+{
+    if !window_fits(header) {
+        return WINDOW_TOO_HIGH;
+    }
+    if !envelope_numbers_fit(header) {
+        return ENVELOPE_TOO_HIGH;
+    }
+    if !squares_end(bank, table, header) {
+        return NO_ENVELOPE_END;
+    }
+    if !addresses_fit(header) {
+        return CHANNEL_OUTSIDE;
+    }
+    if all_unused(header) {
+        return NO_CHANNEL;
+    }
+    0
+}
+
+// The first number of 1 to 9, or 0.
+fn number_of(bank: &[u8], places: Places, track: u32) -> u32
+    ensures { λ r. ⌜ r ≡ numberOf (now (bank .entry)) places track ⌝ }
+{
+    if bank.len() != bank::BANK_SIZE {
+        return WRONG_SIZE;
+    }
+    if !places_fit(places) {
+        return TABLE_OUTSIDE;
+    }
+    if places.track_count <= track {
+        return NO_TRACK;
+    }
+    if !bank::fits(header_address(bank, places, track), HEADER_SIZE) {
+        return HEADER_OUTSIDE;
+    }
+    header_number(
+        bank,
+        places.envelope_addresses,
+        header_of(bank, places, track),
+    )
+}
+
+fn unused(kind: Kind) -> Voice
+    ensures { λ r. ⌜ r ≡ unusedVoice kind ⌝ }
+{
+    Voice {
+        used: false,
+        kind,
+        data: 0,
+        has_envelope: false,
+        envelope: 0,
+        default: 0,
+    }
+}
+
+// A channel by its address, its envelope number (0 for none) and its default ctrl 1 byte.
+fn voice_of(bank: &[u8], table: u32, kind: Kind, address: usize, number: u8, default: u8) -> Voice
+    ensures { λ r. ⌜ r ≡ voiceOf (now (bank .entry)) table kind address number default ⌝ }
+{
+    if address == 0 {
+        return unused(kind);
+    }
+    let data = bank::offset_of(address);
+    if number == 0 {
+        return Voice {
+            used: true,
+            kind,
+            data,
+            has_envelope: false,
+            envelope: 0,
+            default,
+        };
+    }
+    let envelope = bank::offset_of(envelope_address(bank, table, number));
+    Voice {
+        used: true,
+        kind,
+        data,
+        has_envelope: true,
+        envelope,
+        default,
+    }
+}
+
+fn voices_of(bank: &[u8], places: Places, header: &[u8]) -> [Voice; 4]
+    ensures { λ r. ⌜ r ≡ voicesOf (now (bank .entry)) places (now (header .entry)) ⌝ }
+{
+    let table = places.envelope_addresses;
+    let square1 = voice_of(
+        bank,
+        table,
+        Kind::Melodic,
+        bank::word(header, 5),
+        bank::byte(header, 3),
+        places.default1,
+    );
+    let square2 = voice_of(
+        bank,
+        table,
+        Kind::Melodic,
+        bank::word(header, 7),
+        bank::byte(header, 4),
+        places.default2,
+    );
+    let triangle = voice_of(bank, table, Kind::Melodic, bank::word(header, 9), 0, 0);
+    let noise = voice_of(bank, table, Kind::Noise, bank::word(header, 11), 0, 0);
+    [square1, square2, triangle, noise]
+}
+
+fn track_of(bank: &[u8], places: Places, header: &[u8]) -> Track
+    ensures { λ r. ⌜ r ≡ trackOf (now (bank .entry)) places (now (header .entry)) ⌝ }
+{
+    let voices = voices_of(bank, places, header);
+    Track {
+        window: bank::byte(header, 0),
+        restart: bank::byte(header, 1) != 0,
+        release: bank::byte(header, 2),
+        lengths: bank::offset_of(places.note_lengths as usize),
+        periods: bank::offset_of(places.key_periods as usize),
+        presets: bank::offset_of(places.noise_presets as usize),
+        voices,
+    }
+}
+
+fn blank_track() -> Track
+    ensures { λ r. ⌜ r ≡ blankTrack ⌝ }
+{
+    let voice = unused(Kind::Melodic);
+    Track {
+        window: 0,
+        restart: false,
+        release: 0,
+        lengths: 0,
+        periods: 0,
+        presets: 0,
+        voices: [voice; 4],
+    }
+}
+
+// A track of a bank, or the first number of 1 to 9.
+pub fn open(bank: &[u8], places: Places, track: u32) -> Opened
+    ensures { λ r. ⌜ Answers toldOpened r (openTrack (now (bank .entry)) places track) ⌝ }
+{
+    let number = number_of(bank, places, track);
+    if number != 0 {
+        return Opened {
+            number,
+            track: blank_track(),
+        };
+    }
+    let opened = track_of(bank, places, header_of(bank, places, track));
+    Opened {
+        number,
+        track: opened,
+    }
+}
