@@ -2,7 +2,7 @@
 use Prim.Native.Nat.{ℕ, _+_, _/_, _<_, _≤_}
 use mathlib.Core.Bool.{Bool, true, false}
 use mathlib.Core.List.{List, [], _∷_}
-use mathlib.Core.Path.{_≡_, refl}
+use mathlib.Core.Path.{_≡_, refl, sym}
 use native.Mathlib.Omega.{arith}
 use borrow.Author.Tests.{eqb-true, leb-true}
 use borrow.Author.Needs.{needs}
@@ -18,6 +18,7 @@ use Rattle.metroid_format.specs.Number.{
   envelope-too-high,
   no-envelope-end,
   channel-outside,
+  no-channel,
 }
 use Rattle.metroid_format.specs.Bank.{bank-size, bank-start, bank-end, all, offsetOf, within}
 use Rattle.metroid_format.specs.Header.{
@@ -27,6 +28,7 @@ use Rattle.metroid_format.specs.Header.{
   squaresEnd,
   addressFits,
   addressesFit,
+  allUnused,
   headerNumber,
   numberOf,
   headerOf,
@@ -40,6 +42,7 @@ use Rattle.metroid_format.specs.Header.{
   trackOf,
   openTrack,
 }
+use Rattle.metroid_format.proofs.Picks.{by-test, false-true}
 use Rattle.metroid_format.specs.declared.command.Kind.{Kind}
 use Rattle.metroid_format.specs.declared.bank.Places.{Places}
 use Rattle.metroid_format.specs.declared.header.Voice.{Voice}
@@ -49,12 +52,17 @@ abbrev pub Every : (Voice → Type 0) → List Voice → Type 0
 Every P [] = Unit
 Every P (v ∷ vs) = P v × Every P vs
 
+pub data SomeUsed : List Voice → Type 0 where
+  here : {v : Voice} {vs : List Voice} → v .used ≡ true → SomeUsed (v ∷ vs)
+  later : {v : Voice} {vs : List Voice} → SomeUsed vs → SomeUsed (v ∷ vs)
+
 pub record Opens (bank : List ℕ) (track : Track) : Type 0 where
   pub size : length bank ≡ bank-size
   pub four : length (track .voices) ≡ 4
   pub low : track .window < 32
   -- that of an unused voice is 0
   pub starts : Every (λ v. v .«data» < bank-size) (track .voices)
+  pub some : SomeUsed (track .voices)
 
 both : (a b : Bool) → pick a b false ≡ true → (a ≡ true) × (b ≡ true)
 both true b e = (refl, e)
@@ -63,6 +71,10 @@ both false b e = let z : _≡_ {A = ℕ} 0 1 = cc in absurd (omega arith)
 passed : (test : Bool) (number rest : ℕ) → 0 < number → pick test rest number ≡ 0 → (test ≡ true) × (rest ≡ 0)
 passed true number rest h e = (refl, e)
 passed false number rest h e = absurd (omega arith)
+
+unpassed : (test : Bool) (number : ℕ) → 0 < number → pick test number 0 ≡ 0 → test ≡ false
+unpassed true number h e = absurd (omega arith)
+unpassed false number h e = refl
 
 most : (test : Bool) (number rest : ℕ) → number ≤ 9 → rest ≤ 9 → pick test rest number ≤ 9
 most true number rest h k = k
@@ -114,6 +126,27 @@ voices-start bank places header e =
       ),
     )
 
+voice-used : (bank : List ℕ) (table : ℕ) (k : Kind) (address number ctrl1 : ℕ)
+    → eqb address 0 ≡ false → voiceOf bank table k address number ctrl1 .used ≡ true
+unfolding voiceOf
+voice-used bank table k address number ctrl1 e =
+    rw e (by-test (λ (v : Voice). v .used ≡ true) (eqb number 0) (λ _. refl) λ _. refl)
+
+used-first : {v : Voice} {vs : List Voice} (unused others : Bool) → (unused ≡ false → v .used ≡ true)
+    → (others ≡ false → SomeUsed vs) → pick unused others false ≡ false → SomeUsed (v ∷ vs)
+used-first true others first rest e = later (rest e)
+used-first false others first rest e = here (first refl)
+
+voices-used : (bank : List ℕ) (places : Places) (header : List ℕ)
+    → allUnused header ≡ false → SomeUsed (voicesOf bank places header)
+unfolding allUnused voicesOf
+voices-used bank places header e =
+    used-first _ _ (voice-used _ _ _ _ _ _)
+    (used-first _ _ (voice-used _ _ _ _ _ _)
+    (used-first _ _ (voice-used _ _ _ _ _ _)
+    (used-first _ _ (voice-used _ _ _ _ _ _) λ e. absurd (false-true (sym e)))))
+    e
+
 track-opens : (bank : List ℕ) (places : Places) (header : List ℕ)
     → length bank ≡ bank-size
     → headerNumber bank (places .«envelope_addresses») header ≡ 0
@@ -129,6 +162,7 @@ track-opens bank places header size e =
       four = refl;
       low = omega (arith, eqb-true (getD header 0 0 / 32) 0 (low .0));
       starts = voices-start bank places header (fits .0);
+      some = voices-used bank places header (unpassed (allUnused header) no-channel (omega arith) (fits .1));
     }
 
 pub opens : (bank : List ℕ) (places : Places) (track : ℕ)

@@ -57,10 +57,10 @@ module _ (source : Source) (table : (i : ℕ) → getD (source .lengths) i 0 ≤
       omega (arith, later)
   bounded-by _ (Plays.begin-loop counter h f m) =
       omega arith
-  bounded-by _ (Plays.long note entry h l) =
+  bounded-by _ (Plays.long note entry h l n) =
       let byte : getD (source .lengths) entry 0 ≤ 255 = table entry in
       omega (arith, more (255 * pass .lead + (pass .rest + getD (source .lengths) entry 0)) (omega arith))
-  bounded-by _ (Plays.lone note h l) = lone (eqb (pass .rest) 0) h
+  bounded-by _ (Plays.lone note h l n) = lone (eqb (pass .rest) 0) h
   bounded-by _ (Plays.refused number place) = tt
 
   pub bounded : BoundedBy source (passedOf source pass)

@@ -112,7 +112,7 @@ module _ (source : Source) where
         record { next-within = omega arith; start-within = p .start-within; byte = p .byte; looped = p .looped }
     placed-step (goes-back h e m) p =
         record { next-within = p .start-within; start-within = p .start-within; byte = omega arith; looped = λ _. p .looped m }
-    placed-step (notes b after frames h w) p =
+    placed-step (notes b after frames h w l n) p =
         record { next-within = omega arith; start-within = p .start-within; byte = p .byte; looped = p .looped }
     placed-step (ends h) p = tt
     placed-step (refuses number at) p = tt
@@ -145,7 +145,7 @@ module _ (source : Source) where
     reads-placed (refused e) p = p
 
   note-there : {cursor after : Cursor} {b : ℕ} → Stepped source cursor (Step.Note b after) → cursor .next < length (source .bytes)
-  note-there (notes b after frames h w) = omega arith
+  note-there (notes b after frames h w l n) = omega arith
 
   end-there : {cursor : Cursor} → Stepped source cursor Step.End → cursor .next < length (source .bytes)
   end-there (ends h) = h

@@ -1,5 +1,6 @@
 -- What a command can do to a cursor: the cases of `commandAt` and `stepOf`, with what holds in each.
 use Prim.Native.Nat.{ℕ, _+_, _-_, _/_, _%_, _≤_, _<_}
+use mathlib.Core.Bool.{true}
 use mathlib.Core.List.{List}
 use mathlib.Core.Path.{_≡_}
 use native.Mathlib.Omega.{arith}
@@ -18,16 +19,16 @@ use Rattle.metroid_format.specs.declared.channel.Cursor.{Cursor}
 use Rattle.metroid_format.specs.declared.channel.Played.{Played}
 use Rattle.metroid_format.specs.declared.channel.Step.{Step}
 
-data Decodes (bytes : List ℕ) (at : ℕ) : Decoded → Type 0 where
-  end : at < length bytes → Decodes bytes at (Decoded.Found Command.End (at + 1))
-  end-loop : at < length bytes → getD bytes at 0 ≡ 0xff → Decodes bytes at (Decoded.Found Command.EndLoop (at + 1))
-  begin-loop : (n : ℕ) → at < length bytes → (getD bytes at 0 ≡ 0xff → ⊥) → n < 64 → Decodes bytes at (Decoded.Found (Command.BeginLoop n) (at + 1))
-  long : (note : ℕ) → at + 1 < length bytes → getD bytes at 0 / 16 ≡ 0x0b →
-      Decodes bytes at (Decoded.Found (Command.Length (getD bytes at 0 % 16) note) (at + 1 + 1))
-  lone : (note : ℕ) → at < length bytes → Decodes bytes at (Decoded.Found (Command.Note note) (at + 1))
-  refused : (number place : ℕ) → Decodes bytes at (Decoded.Refused number place)
+data Decodes (kind : Kind) (bytes : List ℕ) (at : ℕ) : Decoded → Type 0 where
+  end : at < length bytes → Decodes kind bytes at (Decoded.Found Command.End (at + 1))
+  end-loop : at < length bytes → getD bytes at 0 ≡ 0xff → Decodes kind bytes at (Decoded.Found Command.EndLoop (at + 1))
+  begin-loop : (n : ℕ) → at < length bytes → (getD bytes at 0 ≡ 0xff → ⊥) → n < 64 → Decodes kind bytes at (Decoded.Found (Command.BeginLoop n) (at + 1))
+  long : (note : ℕ) → at + 1 < length bytes → getD bytes at 0 / 16 ≡ 0x0b → isNote kind note ≡ true →
+      Decodes kind bytes at (Decoded.Found (Command.Length (getD bytes at 0 % 16) note) (at + 1 + 1))
+  lone : (note : ℕ) → at < length bytes → isNote kind note ≡ true → Decodes kind bytes at (Decoded.Found (Command.Note note) (at + 1))
+  refused : (number place : ℕ) → Decodes kind bytes at (Decoded.Refused number place)
 
-decodes : (kind : Kind) (bytes : List ℕ) (at : ℕ) → Decodes bytes at (commandAt kind bytes at)
+decodes : (kind : Kind) (bytes : List ℕ) (at : ℕ) → Decodes kind bytes at (commandAt kind bytes at)
 unfolding commandAt commandOf noteAfter
 decodes kind bytes at =
     by-test D (leb (length bytes) at) (λ _. refused past-data at) λ past.
@@ -39,12 +40,12 @@ decodes kind bytes at =
     (λ l.
     by-test D (leb (length bytes) (at + 1)) (λ _. refused past-data (at + 1)) λ past′.
     by-test D (isNote kind (getD bytes (at + 1) 0))
-    (λ _. long _ (leb-false _ _ past′) (eqb-true _ _ l)) λ _. refused invalid-note (at + 1)) λ _.
+    (λ n. long _ (leb-false _ _ past′) (eqb-true _ _ l) n) λ _. refused invalid-note (at + 1)) λ _.
     by-test D (leb 0x80 b) (λ _. refused invalid-command at) λ _.
-    by-test D (isNote kind b) (λ _. lone b within) λ _. refused invalid-note at
+    by-test D (isNote kind b) (λ n. lone b within n) λ _. refused invalid-note at
   where
     D : Decoded → Type 0
-    D d = Decodes bytes at d
+    D d = Decodes kind bytes at d
 
     b : ℕ
     b = getD bytes at 0
@@ -65,15 +66,16 @@ length-above lengths window b e =
     omega arith) λ t _.
     absurd (eqb-false _ _ t e)
 
--- a note is longer than 0 frames; what is not refused stands in the data
+-- a note is longer than 0 frames, and a key, rest or preset of the channel; what is not refused stands in the data
 pub data Plays (source : Source) (at : ℕ) (current : Frames) : Played → Type 0 where
   end : at < length (source .bytes) → Plays source at current Played.End
   end-loop : at < length (source .bytes) → getD (source .bytes) at 0 ≡ 0xff → Plays source at current (Played.EndLoop (at + 1))
   begin-loop : (counter : ℕ) → at < length (source .bytes) → (getD (source .bytes) at 0 ≡ 0xff → ⊥) → counter ≤ 255 →
       Plays source at current (Played.BeginLoop counter (at + 1))
-  long : (b entry : ℕ) → at + 1 < length (source .bytes) → 0 < getD (source .lengths) entry 0 →
+  long : (b entry : ℕ) → at + 1 < length (source .bytes) → 0 < getD (source .lengths) entry 0 → isNote (source .kind) b ≡ true →
       Plays source at current (Played.Length b (record { count = getD (source .lengths) entry 0 }) (at + 1 + 1))
-  lone : (b : ℕ) → at < length (source .bytes) → 0 < current .count → Plays source at current (Played.Note b (at + 1))
+  lone : (b : ℕ) → at < length (source .bytes) → 0 < current .count → isNote (source .kind) b ≡ true →
+      Plays source at current (Played.Note b (at + 1))
   refused : (number place : ℕ) → Plays source at current (Played.Refused number place)
 
 pub plays : (source : Source) (at : ℕ) (current : Frames) → Plays source at current (playedAt source at current)
@@ -86,16 +88,16 @@ plays source at current =
     b : ℕ
     b = getD (source .bytes) at 0
 
-    from : (d : Decoded) → Decodes (source .bytes) at d → lengthFault (source .lengths) (source .window) b ≡ 0 →
+    from : (d : Decoded) → Decodes (source .kind) (source .bytes) at d → lengthFault (source .lengths) (source .window) b ≡ 0 →
         Plays source at current (playedBy (playedOf (source .lengths) (source .window) at current) d)
     from _ (Decodes.end h) z = end h
     from _ (Decodes.end-loop h e) z = end-loop h e
     from _ (Decodes.begin-loop n h e m) z = begin-loop (counterOf n) h e (counter-bound n m)
-    from _ (Decodes.long note h e) z = long note _ h (length-above (source .lengths) (source .window) b e z)
-    from _ (Decodes.lone note h) z =
+    from _ (Decodes.long note h e n) z = long note _ h (length-above (source .lengths) (source .window) b e z) n
+    from _ (Decodes.lone note h n) z =
         by-test (Plays source at current) (eqb (current .count) 0) (λ _. refused _ at) λ t.
         let above : current .count ≡ 0 → ⊥ = eqb-false _ _ t in
-        lone note h (omega arith)
+        lone note h (omega arith) n
     from _ (Decodes.refused number place) z = refused number place
 
 pub data Stepped (source : Source) (cursor : Cursor) : Step → Type 0 where
@@ -109,6 +111,7 @@ pub data Stepped (source : Source) (cursor : Cursor) : Step → Type 0 where
       Stepped source cursor
       (Step.Again (record { next = cursor .«loop_start»; «loop_start» = cursor .«loop_start»; counter = cursor .counter - 1; length = cursor .length }))
   notes : (b after : ℕ) (frames : Frames) → cursor .next < after → after ≤ length (source .bytes) →
+      0 < frames .count → isNote (source .kind) b ≡ true →
       Stepped source cursor
       (Step.Note b (record { next = after; «loop_start» = cursor .«loop_start»; counter = cursor .counter; length = frames }))
   ends : cursor .next < length (source .bytes) → Stepped source cursor Step.End
@@ -126,6 +129,6 @@ stepped source cursor = from _ (plays source (cursor .next) (cursor .length))
         let above : cursor .counter ≡ 0 → ⊥ = eqb-false _ _ t in
         goes-back h e (omega arith)
     from _ (begin-loop counter h e m) = begins counter h e m
-    from _ (long b entry h l) = notes b (cursor .next + 1 + 1) _ (omega arith) (omega arith)
-    from _ (lone b h l) = notes b (cursor .next + 1) (cursor .length) (omega arith) (omega arith)
+    from _ (long b entry h l n) = notes b (cursor .next + 1 + 1) _ (omega arith) (omega arith) l n
+    from _ (lone b h l n) = notes b (cursor .next + 1) (cursor .length) (omega arith) (omega arith) l n
     from _ (refused number place) = refuses number place

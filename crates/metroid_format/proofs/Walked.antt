@@ -242,7 +242,7 @@ module _ (source : Source) (origin : Cursor) where
         replay = λ c k length l. rw (zero-mul, add-zero) stay;
       },
     )
-    passes _ e (Plays.long b entry h l) = (
+    passes _ e (Plays.long b entry h l n) = (
       start,
       omega arith,
       omega arith,
@@ -256,7 +256,7 @@ module _ (source : Source) (origin : Cursor) where
             (step-at source _ _ (replays source (pass .next) (pass .length) _ _ tt e)));
       },
     )
-    passes _ e (Plays.lone b h l) = lone b h l e (eqb (pass .rest) 0) refl
+    passes _ e (Plays.lone b h l n) = lone b h l e (eqb (pass .rest) 0) refl
     passes _ e (Plays.refused number place) = stops (refused (step-at source here _ e))
 
   -- a command passes a byte, so that the fuel is never used up
