@@ -55,7 +55,7 @@ const HEADER_SIZE: usize = 13;
 const LAST_ENVELOPE: u8 = 5;
 
 // F0 or FF stands in this many bytes of an envelope.
-const ENVELOPE_REACH: usize = 64;
+pub const ENVELOPE_REACH: usize = 64;
 
 // A channel as the header has it, with offsets in the bank. An unused one has nothing but its kind.
 pub struct Voice {

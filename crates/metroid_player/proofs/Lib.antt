@@ -1,0 +1,9 @@
+pub mod Envelope
+pub mod RecordLaws
+pub mod Counts
+pub mod Running
+pub mod Settling
+pub mod Framing
+pub mod Starting
+pub mod Kept
+pub mod Foreseen

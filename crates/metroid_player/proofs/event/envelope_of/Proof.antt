@@ -1,0 +1,15 @@
+use borrow.Author.Needs.{needs}
+use Rattle.metroid_player.specs.Event.{envelopeOf}
+use Rattle.metroid_format.proofs.Picks.{picks}
+use Rattle.metroid_player.proofs.event.envelope_of.Statement.{statement}
+use Rattle.metroid_player.proofs.event.envelope_of.Tie as tie
+
+pub envelope-of-spec : {M : Type 1} → statement M
+unfolding envelopeOf
+envelope-of-spec =
+    tie.close
+    (tie.spec
+    (λ c κs. search needs)
+    (λ c. search (picks, needs) depth 12)
+    (λ c κs. search needs)
+    (λ c. search (picks, needs) depth 12))

@@ -1,0 +1,21 @@
+use borrow.Author.Needs.{needs}
+use borrow.Author.Tests.{eq-eqb, ne-eqb}
+use Rattle.metroid_player.specs.Event.{soundOf}
+use Rattle.metroid_player.proofs.event.sound_of.Statement.{statement}
+use Rattle.metroid_player.proofs.event.sound_of.Tie as tie
+
+pub sound-of-spec : {M : Type 1} → statement M
+unfolding soundOf
+sound-of-spec =
+    tie.close
+    (tie.spec
+    (λ c. search needs)
+    (λ c κs. search needs)
+    (λ c κs. search needs)
+    (λ c. search needs)
+    (λ c κs. search needs)
+    (λ c κs. search needs)
+    (λ c κs. search needs)
+    (λ c. rw (c .noise-sound .ensures, c .before .part .ensures, c .before .before .enum-told .given .1))
+    (λ c. rw (c .triangle-sound .ensures, c .before .before .part2 .ensures, c .before .before .before .enum-told2 .given .1, eq-eqb _ _ (c .before .if1 .taken)))
+    (λ c. rw (c .square-sound .ensures, c .before .before .part2 .ensures, c .before .before .before .enum-told2 .given .1, ne-eqb _ _ (c .before .if1 .left))))

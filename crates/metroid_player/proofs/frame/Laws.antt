@@ -1,0 +1,274 @@
+-- The steps of the frame rule, as the code takes them.
+use Prim.Native.Nat.{ℕ, _+_, _-_, _≤_, _<_}
+use mathlib.Core.Bool.{Bool, true, false}
+use mathlib.Core.List.{List, _∷_}
+use mathlib.Core.Path.{_≡_, refl, sym, ap, _∙_}
+use native.Mathlib.Omega.{arith}
+use native.Mathlib.Numerals.{add-one}
+use lib.Dec.{leb}
+use lib.ListN.{length, getD, set, take, drop, drop-of-length-le, length-take, length-set}
+use lib.Seq.{sets, drop-cons, drop-drop, drop-set-lt}
+use borrow.Author.Tests.{leb-true}
+use Rattle.metroid_format.specs.Pick.{pick}
+use Rattle.metroid_format.specs.Command.{data-limit}
+use Rattle.metroid_format.specs.Channel.{sourceOf, readUntil, toldReading}
+use Rattle.metroid_format.specs.Number.{Answers}
+use Rattle.metroid_format.specs.Bank.{lengths-size}
+use Rattle.metroid_format.specs.declared.header.Voice.{Voice}
+use Rattle.metroid_format.specs.declared.header.Track.{Track}
+use Rattle.metroid_format.specs.declared.channel.Cursor.{Cursor}
+use Rattle.metroid_format.specs.declared.channel.Stop.{Stop}
+use Rattle.metroid_format.specs.declared.channel.Reading.{Reading}
+use Rattle.metroid_format.proofs.Picks.{by-test, false-true, pick-true, pick-false, pick-eq, pick-ne}
+use Rattle.metroid_format.proofs.ReadBound.{Placed, reads, reads-placed}
+use Rattle.metroid_player.specs.Record.{four, endedPlayer, cursorOf, channelFits, channelsFit}
+use Rattle.metroid_player.specs.Event.{offEvent}
+use Rattle.metroid_player.specs.Frame.{channelSource, begun, turnBy, oneOff, playing, turnOfReading, turnOf, Settled, settled, settleBy, settleTurn, settleFrom, silent, framed}
+use Rattle.metroid_player.specs.declared.record.Channel.{Channel}
+use Rattle.metroid_player.specs.declared.event.Event.{Event}
+use Rattle.metroid_player.specs.declared.frame.Turned.{Turned}
+use Rattle.metroid_player.specs.declared.frame.Turn.{Turn}
+use Rattle.metroid_player.specs.declared.frame.Answer.{Answer}
+use Rattle.metroid_player.specs.declared.frame.Framed.{Framed}
+use Rattle.metroid_player.specs.declared.record.Player.{Player}
+
+pub nothing-off : (c : Channel) → c .left ≡ 0 → c ≡ oneOff c
+nothing-off c e =
+    let q : c .left ≡ c .left - 1 = omega arith in
+    λ i. record {
+      next = c .next;
+      «loop_start» = c .«loop_start»;
+      counter = c .counter;
+      length = c .length;
+      left = q i;
+      sounding = c .sounding;
+    }
+
+-- what 16 leaves of a used channel's offsets
+offsets-fit : (v : Voice) (c : Channel) → v .used ≡ true → channelFits v c ≡ true → (c .next ≤ data-limit) × (c .«loop_start» ≤ data-limit)
+unfolding channelFits
+offsets-fit v c u = rw u
+    (by-test (λ x. x ≡ true → (c .next ≤ data-limit) × (c .«loop_start» ≤ data-limit)) (leb (c .next) data-limit)
+    (λ n. by-test (λ x. x ≡ true → (c .next ≤ data-limit) × (c .«loop_start» ≤ data-limit)) (leb (c .«loop_start») data-limit)
+    (λ l _. (leb-true _ _ n, leb-true _ _ l))
+    (λ _ z. absurd (false-true z)))
+    (λ _ z. absurd (false-true z)))
+
+pub next-fits : (v : Voice) (c : Channel) → v .used ≡ true → channelFits v c ≡ true → c .next ≤ data-limit
+next-fits v c u f = offsets-fit v c u f .0
+
+pub start-fits : (v : Voice) (c : Channel) → v .used ≡ true → channelFits v c ≡ true → c .«loop_start» ≤ data-limit
+start-fits v c u f = offsets-fit v c u f .1
+
+-- 16, from the i-th channel on
+pub record Fitting (vs : List Voice) (cs : List Channel) (i : ℕ) : Type 0 where
+  pub within : i ≤ 4
+  pub voices : length vs ≡ 4
+  pub channels : length cs ≡ 4
+  pub same : channelsFit vs cs ≡ channelsFit (drop i vs) (drop i cs)
+
+module _ (vs : List Voice) (cs : List Channel) (i : ℕ) (m : Fitting vs cs i) where
+  fit-next : (dv : Voice) (dc : Channel) → i < 4 → channelsFit vs cs ≡ pick (channelFits (getD vs i dv) (getD cs i dc)) (channelsFit (drop (i + 1) vs) (drop (i + 1) cs)) false
+  fit-next dv dc h =
+      let v : i < length vs = omega (arith, m .voices) in
+      let c : i < length cs = omega (arith, m .channels) in
+      m .same ∙ rw (drop-cons vs i dv, drop-cons cs i dc, add-one i)
+
+  -- r is what `channel_fits` answers
+  module _ (h : i < 4) (dv : Voice) (dc : Channel) (r : Bool) (q : r ≡ channelFits (getD vs i dv) (getD cs i dc)) where
+    pub fit-more : r ≡ true → Fitting vs cs (i + 1)
+    fit-more t = record {
+      within = omega arith;
+      voices = m .voices;
+      channels = m .channels;
+      same = fit-next dv dc h ∙ rw (← q, t);
+    }
+
+    pub fit-not : r ≡ false → false ≡ channelsFit vs cs
+    fit-not f = sym (fit-next dv dc h ∙ rw (← q, f))
+
+  pub fit-all : 4 ≤ i → true ≡ channelsFit vs cs
+  fit-all h =
+      let v : length vs ≤ i = omega (arith, m .voices) in
+      sym (m .same ∙ rw (drop-of-length-le vs v))
+
+-- what `read_until` answers of a channel's part of the bank
+pub reading-is : (bank : List ℕ) (track : Track) (v : Voice) (c : Channel)
+    (bytes : List ℕ) → bytes ≡ take data-limit (drop (v .«data») bank)
+    → (lengths : List ℕ) → lengths ≡ take lengths-size (drop (track .lengths) bank)
+    → (cursor : Cursor) → cursor ≡ cursorOf c
+    → (r : Reading) → Answers toldReading r (readUntil data-limit (sourceOf (v .kind) bytes lengths (track .window)) cursor)
+    → r ≡ readUntil data-limit (channelSource bank track v) (cursorOf c)
+reading-is bank track v c bytes d lengths l cursor k r a = a .same ∙ rw (d, l, k)
+
+module _ (bank : List ℕ) (track : Track) (i : ℕ) (v : Voice) (c : Channel) where
+  -- from a record that passes 16 the offsets stay within the limit
+  pub stays-within : (r : Reading) → r ≡ readUntil data-limit (channelSource bank track v) (cursorOf c) → (c .next ≤ data-limit) × (c .«loop_start» ≤ data-limit) → c .counter < 256
+      → (r .cursor .next ≤ data-limit) × (r .cursor .«loop_start» ≤ data-limit)
+  stays-within r e h b =
+      let s = channelSource bank track v in
+      let w : length (s .bytes) ≤ data-limit = omega (arith, length-take data-limit (drop (v .«data») bank)) in
+      let p : Placed data-limit 1 (cursorOf c) = record { next-within = h .0; start-within = h .1; byte = omega arith; looped = λ _. omega arith } in
+      let q = reads-placed s data-limit 1 w (reads s 128 1 w (cursorOf c) (omega arith) p) p in
+      rw e (q .next-within, q .start-within)
+
+  module _ (r : Reading) (e : r ≡ readUntil data-limit (channelSource bank track v) (cursorOf c)) where
+    pub turn-note : (b : ℕ) → r .stop ≡ Stop.Note b → (begins : Channel) → begins ≡ begun (r .cursor) b → (t : Turn) → t ≡ playing bank track i v true (r .count) begins
+        → t ≡ turnOfReading bank track i v (readUntil data-limit (channelSource bank track v) (cursorOf c))
+    turn-note b s begins f t g = rw (← e) (g ∙ ap (λ (x : Channel). playing bank track i v true (r .count) x) f ∙ ap (turnBy bank track i v (r .cursor) (r .count)) (sym s))
+
+    pub turn-end : r .stop ≡ Stop.End → record { turned = Turned.End; count = r .count } ≡ turnOfReading bank track i v (readUntil data-limit (channelSource bank track v) (cursorOf c))
+    turn-end s = rw (← e) (ap (turnBy bank track i v (r .cursor) (r .count)) (sym s))
+
+    pub turn-refused : (number at : ℕ) → r .stop ≡ Stop.Refused number at
+        → record { turned = Turned.Refused number at; count = r .count } ≡ turnOfReading bank track i v (readUntil data-limit (channelSource bank track v) (cursorOf c))
+    turn-refused number at s = rw (← e) (ap (turnBy bank track i v (r .cursor) (r .count)) (sym s))
+
+-- a voice by its use and the frames left
+module _ (bank : List ℕ) (track : Track) (i : ℕ) (v : Voice) (c : Channel) where
+  pub turn-reading : (t : Turn) → v .used ≡ true → c .left ≡ 0 → t ≡ turnOfReading bank track i v (readUntil data-limit (channelSource bank track v) (cursorOf c)) → t ≡ turnOf bank track i v c
+  unfolding turnOf
+  turn-reading t u z e = pick-true _ _ _ t u (pick-eq _ _ _ _ t z e)
+
+  pub turn-sounding : (t : Turn) → v .used ≡ true → (c .left ≡ 0 → ⊥) → t ≡ playing bank track i v false 0 c → t ≡ turnOf bank track i v c
+  unfolding turnOf
+  turn-sounding t u z e = pick-true _ _ _ t u (pick-ne _ _ _ _ t z e)
+
+  pub turn-off : (e : Event) → v .used ≡ false → e ≡ offEvent → record { turned = Turned.Plays e c; count = 0 } ≡ turnOf bank track i v c
+  unfolding turnOf
+  turn-off e u f = pick-false _ _ _ _ u (rw f)
+
+-- the channels from the i-th on, with what the ones before have left in the three arrays
+module _ (bank : List ℕ) (track : Track) (player : Player) where
+  abbrev settledFrom : ℕ → Settled
+  settledFrom i = settleFrom bank track i (drop i (track .voices)) (drop i (player .channels))
+
+  abbrev whole : Settled
+  whole = settleFrom bank track 0 (track .voices) (player .channels)
+
+  pub record Settling (events : List Event) (counts : List ℕ) (channels : List Channel) (i : ℕ) : Type 0 where
+    pub within : i ≤ 4
+    pub voices-four : length (track .voices) ≡ 4
+    pub events-four : length events ≡ 4
+    pub counts-four : length counts ≡ 4
+    pub channels-four : length channels ≡ 4
+    pub rest-given : drop i channels ≡ drop i (player .channels)
+    pub rest-fits : channelsFit (drop i (track .voices)) (drop i (player .channels)) ≡ true
+    pub same-answer : whole .answer ≡ settledFrom i .answer
+    pub same-events : sets (four offEvent) 0 (whole .events) ≡ sets events i (settledFrom i .events)
+    pub same-counts : sets (four 0) 0 (whole .counts) ≡ sets counts i (settledFrom i .counts)
+    pub same-channels : sets (player .channels) 0 (whole .channels) ≡ sets channels i (settledFrom i .channels)
+
+  pub settling-none : length (track .voices) ≡ 4 → length (player .channels) ≡ 4 → channelsFit (track .voices) (player .channels) ≡ true
+      → (events : List Event) → events ≡ four offEvent → Settling events (four 0) (player .channels) 0
+  settling-none v c f events e = record {
+    within = omega arith;
+    voices-four = v;
+    events-four = rw e;
+    counts-four = refl;
+    channels-four = c;
+    rest-given = refl;
+    rest-fits = f;
+    same-answer = refl;
+    same-events = rw e;
+    same-counts = refl;
+    same-channels = refl;
+  }
+
+  module _ (events : List Event) (counts : List ℕ) (channels : List Channel) (i : ℕ) (m : Settling events counts channels i) where
+    settled-all : 4 ≤ i → settledFrom i ≡ settled Answer.Events
+    unfolding settleFrom
+    settled-all h =
+        let v : length (track .voices) ≤ i = omega (arith, m .voices-four) in
+        rw (drop-of-length-le (track .voices) v)
+
+    pub settles-events : 4 ≤ i → record {
+      answer = Answer.Events;
+      events = events;
+      counts = counts;
+      player = record { stopped = player .stopped; channels = channels };
+    } ≡ framed track player whole
+    settles-events h =
+        let e = settled-all h in
+        let a : whole .answer ≡ Answer.Events = m .same-answer ∙ rw e in
+        let s : sets (four offEvent) 0 (whole .events) ≡ events = m .same-events ∙ rw e in
+        let n : sets (four 0) 0 (whole .counts) ≡ counts = m .same-counts ∙ rw e in
+        let c : sets (player .channels) 0 (whole .channels) ≡ channels = m .same-channels ∙ rw e in
+        rw (a, s, n, c)
+
+    module _ (h : i < 4) (dv : Voice) (dc : Channel) where
+      abbrev voice : Voice
+      voice = getD (track .voices) i dv
+
+      abbrev channel : Channel
+      channel = getD channels i dc
+
+      voices-next : drop i (track .voices) ≡ voice ∷ drop (i + 1) (track .voices)
+      voices-next =
+          let v : i < length (track .voices) = omega (arith, m .voices-four) in
+          rw add-one (drop-cons (track .voices) i dv v)
+
+      channels-here : drop i channels ≡ channel ∷ drop (i + 1) channels
+      channels-here =
+          let c : i < length channels = omega (arith, m .channels-four) in
+          rw add-one (drop-cons channels i dc c)
+
+      given-next : drop (i + 1) channels ≡ drop (i + 1) (player .channels)
+      given-next = sym (drop-drop 1 i channels) ∙ ap (drop 1) (m .rest-given) ∙ drop-drop 1 i (player .channels)
+
+      channels-next : drop i (player .channels) ≡ channel ∷ drop (i + 1) (player .channels)
+      channels-next = sym (m .rest-given) ∙ channels-here ∙ rw given-next
+
+      fits-here : pick (channelFits voice channel) (channelsFit (drop (i + 1) (track .voices)) (drop (i + 1) (player .channels))) false ≡ true
+      fits-here = rw (voices-next, channels-next) at (m .rest-fits)
+
+      both-fit : (channelFits voice channel ≡ true) × (channelsFit (drop (i + 1) (track .voices)) (drop (i + 1) (player .channels)) ≡ true)
+      both-fit =
+          by-test (λ x. x ≡ true → (channelFits voice channel ≡ true) × (channelsFit (drop (i + 1) (track .voices)) (drop (i + 1) (player .channels)) ≡ true))
+          (channelFits voice channel) (λ t r. (t, r)) (λ _ z. absurd (false-true z)) fits-here
+
+      pub turn-fits : channelFits voice channel ≡ true
+      turn-fits = both-fit .0
+
+      settled-next : settledFrom i ≡ settleTurn i (turnOf bank track i voice channel) (settledFrom (i + 1))
+      unfolding settleFrom
+      settled-next = rw (voices-next, channels-next)
+
+      -- t is what `take_turn` answers
+      module _ (t : Turn) (q : t ≡ turnOf bank track i voice channel) where
+        settled-by : (x : Turned) → t .turned ≡ x → settledFrom i ≡ settleBy i (t .count) x (settledFrom (i + 1))
+        settled-by x e = settled-next ∙ rw (← q) (ap (λ (y : Turned). settleBy i (t .count) y (settledFrom (i + 1))) e)
+
+        pub settling-more : (event : Event) (next : Channel) → t .turned ≡ Turned.Plays event next
+            → Settling (set events i event) (set counts i (t .count)) (set channels i next) (i + 1)
+        settling-more event next e =
+            let s = settled-by _ e in
+            record {
+              within = omega arith;
+              voices-four = m .voices-four;
+              events-four = length-set events i event ∙ m .events-four;
+              counts-four = length-set counts i (t .count) ∙ m .counts-four;
+              channels-four = length-set channels i next ∙ m .channels-four;
+              rest-given = drop-set-lt (i + 1) channels i next (omega arith) ∙ given-next;
+              rest-fits = both-fit .1;
+              same-answer = m .same-answer ∙ rw s;
+              same-events = m .same-events ∙ rw (s, add-one i);
+              same-counts = m .same-counts ∙ rw (s, add-one i);
+              same-channels = m .same-channels ∙ rw (s, add-one i);
+            }
+
+        pub settles-end : t .turned ≡ Turned.End → (ended : Player) → ended ≡ endedPlayer (track .restart)
+            → (f : Framed) → f ≡ silent Answer.End (set counts i (t .count)) ended → f ≡ framed track player whole
+        settles-end e ended d f g =
+            let s = settled-by _ e in
+            let a : whole .answer ≡ Answer.End = m .same-answer ∙ rw s in
+            let n : sets (four 0) 0 (whole .counts) ≡ set counts i (t .count) = m .same-counts ∙ rw s in
+            g ∙ rw (a, n, d)
+
+        pub settles-fault : (number at : ℕ) → t .turned ≡ Turned.Refused number at
+            → (f : Framed) → f ≡ silent (Answer.Fault number i at) (set counts i (t .count)) player → f ≡ framed track player whole
+        settles-fault number at e f g =
+            let s = settled-by _ e in
+            let a : whole .answer ≡ Answer.Fault number i at = m .same-answer ∙ rw s in
+            let n : sets (four 0) 0 (whole .counts) ≡ set counts i (t .count) = m .same-counts ∙ rw s in
+            g ∙ rw (a, n)

@@ -1,0 +1,19 @@
+use borrow.Author.Needs.{needs}
+use mathlib.Core.Path.{sym, _∙_}
+use Rattle.metroid_player.specs.Frame.{frameOfTrack}
+use Rattle.metroid_format.proofs.Picks.{picks}
+use Rattle.metroid_player.proofs.frame.frame_of_track.Statement.{statement}
+use Rattle.metroid_player.proofs.frame.frame_of_track.Tie as tie
+
+pub frame-of-track-spec : {M : Type 1} → statement M
+unfolding frameOfTrack
+frame-of-track-spec =
+    tie.close
+    (tie.spec
+    (λ c κs. search needs)
+    (λ c κs. sym (c .before .before .before .channels-fit .ensures) ∙ c .before .before .if1 .taken)
+    (λ c. search (picks, needs) depth 12)
+    (λ c κs. search needs)
+    (λ c. search (picks, needs) depth 12)
+    (λ c κs. search needs)
+    (λ c. search (picks, needs) depth 12))

@@ -1,0 +1,10 @@
+use borrow.Author.Needs.{needs}
+use Rattle.metroid_format.proofs.Picks.{answers}
+use Rattle.metroid_player.specs.Frame.{startOf, toldStarted}
+use Rattle.metroid_player.proofs.record.Player.start.Statement.{statement}
+use Rattle.metroid_player.proofs.record.Player.start.Tie as tie
+
+pub start-spec : {M : Type 1} → statement M
+unfolding startOf
+start-spec =
+    tie.close (tie.spec (λ c κs. search needs) (λ c κs. search needs) (λ c. answers toldStarted _ _ (rw (c .fresh .ensures, c .before .«open» .ensures .same))))

@@ -1,0 +1,87 @@
+-- Document 01, 'A frame': what the answer holds for each channel.
+use Prim.Native.Nat.{ℕ, _+_, _-_, _*_, _/_}
+use mathlib.Core.Bool.{Bool, false}
+use mathlib.Core.List.{List, [], _∷_}
+use lib.Dec.{eqb}
+use lib.ListN.{getD, take, drop}
+use Rattle.metroid_format.specs.Pick.{pick}
+use Rattle.metroid_format.specs.Bank.{periods-size, presets-size}
+use Rattle.metroid_format.specs.Header.{envelope-reach}
+use Rattle.metroid_format.specs.declared.command.Kind.{Kind}
+use Rattle.metroid_format.specs.declared.command.Kind.the-variants.{Melodic, Noise as NoiseKind}
+use Rattle.metroid_format.specs.declared.header.Voice.{Voice}
+use Rattle.metroid_format.specs.declared.header.Track.{Track}
+use Rattle.metroid_player.specs.Release.{releaseOf, toldRelease}
+use Rattle.metroid_player.specs.Ctrl1.{silent, ctrl1At}
+use Rattle.metroid_player.specs.declared.record.Channel.{Channel}
+use Rattle.metroid_player.specs.declared.release.Release.the-variants.{After}
+use Rattle.metroid_player.specs.declared.event.Sound.{Sound}
+use Rattle.metroid_player.specs.declared.event.Sound.the-variants.{Off, SquareRest, TriangleRest, NoiseRest, Square, Triangle, Noise}
+use Rattle.metroid_player.specs.declared.event.Event.{Event}
+
+abbrev pub offEvent : Event
+offEvent = record { began = false; sound = Off }
+
+-- key 1 is the rest; noise: 01
+abbrev pub melodic-rest : ℕ
+melodic-rest = 0x02
+
+abbrev pub noise-rest : ℕ
+noise-rest = 0x01
+
+-- key periods are big-endian words
+unfoldable pub periodAt : List ℕ → ℕ → ℕ
+periodAt periods key = 256 * getD periods (2 * key) 0 + getD periods (2 * key + 1) 0
+
+-- the bytes of a square's envelope, none where it has none
+unfoldable pub envelopeOf : List ℕ → Voice → List ℕ
+envelopeOf bank voice = pick (voice .«has_envelope») (take envelope-reach (drop (voice .envelope) bank)) []
+
+-- the record has the frame not yet taken off: the envelope's index is the length less the frames left; a rest gives $10
+unfoldable pub squareSound : List ℕ → List ℕ → Voice → Channel → Sound
+squareSound bank periods voice c =
+    pick (eqb (c .sounding) melodic-rest) (SquareRest silent)
+    (Square (c .sounding / 2) (periodAt periods (c .sounding / 2)) (ctrl1At (voice .default) (envelopeOf bank voice) (c .length - c .left)))
+
+-- release for a triangle note, 0 for its rest
+unfoldable pub triangleSound : List ℕ → ℕ → Channel → Sound
+triangleSound periods release c =
+    pick (eqb (c .sounding) melodic-rest) (TriangleRest (After (record { count = 0 })))
+    (Triangle (c .sounding / 2) (periodAt periods (c .sounding / 2)) (releaseOf release (record { count = c .length })))
+
+-- three bytes at that offset in the preset table
+unfoldable pub noiseSound : List ℕ → ℕ → Sound
+noiseSound presets b =
+    pick (eqb b noise-rest) NoiseRest (Noise (getD presets b 0) (getD presets (b + 1) 0) (getD presets (b + 2) 0))
+
+-- the channels are square 1, square 2, triangle, noise
+abbrev pub triangle-channel : ℕ
+triangle-channel = 2
+
+abbrev pub byKind : Kind → Sound → Sound → Sound
+byKind Melodic melodic noise = melodic
+byKind NoiseKind melodic noise = noise
+
+unfoldable pub soundOf : List ℕ → Track → ℕ → Voice → Channel → Sound
+soundOf bank track i voice c =
+    byKind (voice .kind)
+    (pick (eqb i triangle-channel)
+    (triangleSound (take periods-size (drop (track .periods) bank)) (track .release) c)
+    (squareSound bank (take periods-size (drop (track .periods) bank)) voice c))
+    (noiseSound (take presets-size (drop (track .presets) bank)) (c .sounding))
+
+abbrev pub eventOf : List ℕ → Track → ℕ → Voice → Channel → Bool → Event
+eventOf bank track i voice c began = record { began = began; sound = soundOf bank track i voice c }
+
+-- 0 off, 1 rest, 2 note; whether it began; then key, period and ctrl 1 or release, or the preset's bytes
+abbrev pub toldEvent : Event → List ℕ
+toldEvent e = toldSound (pick (e .began) 1 0) (e .sound)
+  where
+    toldSound : ℕ → Sound → List ℕ
+    toldSound began Off = 0 ∷ 0 ∷ 0 ∷ 0 ∷ 0 ∷ []
+    toldSound began (SquareRest ctrl1) = 1 ∷ began ∷ 0 ∷ 0 ∷ ctrl1 ∷ []
+    toldSound began (TriangleRest release) = 1 ∷ began ∷ 0 ∷ 0 ∷ toldRelease release ∷ []
+    toldSound began NoiseRest = 1 ∷ began ∷ 0 ∷ 0 ∷ 0 ∷ []
+    toldSound began (Square key period ctrl1) = 2 ∷ began ∷ key ∷ period ∷ ctrl1 ∷ []
+    toldSound began (Triangle key period release) = 2 ∷ began ∷ key ∷ period ∷ toldRelease release ∷ []
+    toldSound began (Noise first second third) = 2 ∷ began ∷ first ∷ second ∷ third ∷ []

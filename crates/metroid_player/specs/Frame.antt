@@ -1,0 +1,190 @@
+-- Document 01, 'A frame': the frame rule, and start.
+use Prim.Native.Nat.{ℕ, _+_, _-_}
+use mathlib.Core.Bool.{Bool, true, false}
+use mathlib.Core.List.{List, [], _∷_, _++_}
+use lib.Dec.{eqb}
+use lib.ListN.{take, drop}
+use lib.Seq.{sets}
+use Rattle.metroid_format.specs.Pick.{pick}
+use Rattle.metroid_format.specs.Number.{Told, invalid-record}
+use Rattle.metroid_format.specs.Command.{data-limit}
+use Rattle.metroid_format.specs.Bank.{lengths-size}
+use Rattle.metroid_format.specs.Header.{openTrack}
+use Rattle.metroid_format.specs.Channel.{Source, sourceOf, readUntil}
+use Rattle.metroid_format.specs.declared.bank.Places.{Places}
+use Rattle.metroid_format.specs.declared.header.Voice.{Voice}
+use Rattle.metroid_format.specs.declared.header.Track.{Track}
+use Rattle.metroid_format.specs.declared.channel.Cursor.{Cursor}
+use Rattle.metroid_format.specs.declared.channel.Stop.{Stop}
+use Rattle.metroid_format.specs.declared.channel.Reading.{Reading}
+use Rattle.metroid_player.specs.Record.{four, freshPlayer, endedPlayer, cursorOf, channelsFit}
+use Rattle.metroid_player.specs.Event.{offEvent, eventOf, toldEvent}
+use Rattle.metroid_player.specs.declared.record.Channel.{Channel}
+use Rattle.metroid_player.specs.declared.record.Player.{Player}
+use Rattle.metroid_player.specs.declared.event.Event.{Event}
+use Rattle.metroid_player.specs.declared.frame.Turned.{Turned}
+use Rattle.metroid_player.specs.declared.frame.Turn.{Turn}
+use Rattle.metroid_player.specs.declared.frame.Answer.{Answer}
+use Rattle.metroid_player.specs.declared.frame.Framed.{Framed}
+use Rattle.metroid_player.specs.declared.frame.Started.{Started}
+
+-- a channel's data runs from its address for 256 bytes or to $bfff, whichever is sooner
+abbrev pub channelSource : List ℕ → Track → Voice → Source
+channelSource bank track voice =
+    sourceOf (voice .kind) (take data-limit (drop (voice .«data») bank)) (take lengths-size (drop (track .lengths) bank)) (track .window)
+
+-- a note sets frames left to the current length
+abbrev pub begun : Cursor → ℕ → Channel
+begun cursor b = record {
+  next = cursor .next;
+  «loop_start» = cursor .«loop_start»;
+  counter = cursor .counter;
+  length = cursor .length .count;
+  left = cursor .length .count;
+  sounding = b;
+}
+
+-- then one frame is taken off
+abbrev pub oneOff : Channel → Channel
+oneOff c = record {
+  next = c .next;
+  «loop_start» = c .«loop_start»;
+  counter = c .counter;
+  length = c .length;
+  left = c .left - 1;
+  sounding = c .sounding;
+}
+
+abbrev pub playing : List ℕ → Track → ℕ → Voice → Bool → ℕ → Channel → Turn
+playing bank track i voice began count c =
+    record { turned = Turned.Plays (eventOf bank track i voice c began) (oneOff c); count = count }
+
+abbrev pub turnBy : List ℕ → Track → ℕ → Voice → Cursor → ℕ → Stop → Turn
+turnBy bank track i voice cursor count (Stop.Note b) = playing bank track i voice true count (begun cursor b)
+turnBy bank track i voice cursor count Stop.End = record { turned = Turned.End; count = count }
+turnBy bank track i voice cursor count (Stop.Refused number at) = record { turned = Turned.Refused number at; count = count }
+
+abbrev pub turnOfReading : List ℕ → Track → ℕ → Voice → Reading → Turn
+turnOfReading bank track i voice r = turnBy bank track i voice (r .cursor) (r .count) (r .stop)
+
+-- what the i-th channel does: unused ones are off; a channel with no frames left reads commands until a key, rest, preset, end or fault
+unfoldable pub turnOf : List ℕ → Track → ℕ → Voice → Channel → Turn
+turnOf bank track i voice c =
+    pick (voice .used)
+    (pick (eqb (c .left) 0)
+    (turnOfReading bank track i voice (readUntil data-limit (channelSource bank track voice) (cursorOf c)))
+    (playing bank track i voice false 0 c))
+    (record { turned = Turned.Plays offEvent c; count = 0 })
+
+-- the channels gone through in order: those reached, and the answer
+pub record Settled : Type 0 where
+  pub answer : Answer
+  pub events : List Event
+  pub counts : List ℕ
+  pub channels : List Channel
+
+abbrev pub settled : Answer → Settled
+settled answer = record { answer = answer; events = []; counts = []; channels = [] }
+
+-- an end met by any channel ends the frame at once, and so does a fault: later channels are not read
+abbrev pub settleBy : ℕ → ℕ → Turned → Settled → Settled
+settleBy i count (Turned.Plays event channel) rest = record {
+  answer = rest .answer;
+  events = event ∷ rest .events;
+  counts = count ∷ rest .counts;
+  channels = channel ∷ rest .channels;
+}
+settleBy i count Turned.End rest = record { answer = Answer.End; events = []; counts = count ∷ []; channels = [] }
+settleBy i count (Turned.Refused number at) rest =
+    record { answer = Answer.Fault number i at; events = []; counts = count ∷ []; channels = [] }
+
+abbrev pub settleTurn : ℕ → Turn → Settled → Settled
+settleTurn i t rest = settleBy i (t .count) (t .turned) rest
+
+unfoldable pub settleFrom : List ℕ → Track → ℕ → List Voice → List Channel → Settled
+settleFrom bank track i [] cs = settled Answer.Events
+settleFrom bank track i (v ∷ vs) [] = settled Answer.Events
+settleFrom bank track i (v ∷ vs) (c ∷ cs) = settleTurn i (turnOf bank track i v c) (settleFrom bank track (i + 1) vs cs)
+
+-- no events
+abbrev pub silent : Answer → List ℕ → Player → Framed
+silent answer counts player = record { answer = answer; events = four offEvent; counts = counts; player = player }
+
+-- no commands read, and the record as it was given
+abbrev pub unplayed : Answer → Player → Framed
+unplayed answer player = silent answer (four 0) player
+
+-- a frame broken off counts what the channels reached have read
+abbrev pub brokenOff : Answer → List ℕ → Player → Framed
+brokenOff answer reached player = silent answer (sets (four 0) 0 reached) player
+
+abbrev pub framedBy : Track → Player → Settled → Answer → Framed
+framedBy track player s Answer.Events = record {
+  answer = Answer.Events;
+  events = sets (four offEvent) 0 (s .events);
+  counts = sets (four 0) 0 (s .counts);
+  player = record { stopped = player .stopped; channels = sets (player .channels) 0 (s .channels) };
+}
+framedBy track player s Answer.End = brokenOff Answer.End (s .counts) (endedPlayer (track .restart))
+framedBy track player s Answer.Stopped = unplayed Answer.Stopped player
+framedBy track player s (Answer.Refused number) = unplayed (Answer.Refused number) player
+framedBy track player s (Answer.Fault number i at) = brokenOff (Answer.Fault number i at) (s .counts) player
+
+abbrev pub framed : Track → Player → Settled → Framed
+framed track player s = framedBy track player s (s .answer)
+
+-- a frame tests 16, then Stopped, then reads
+unfoldable pub frameOfTrack : List ℕ → Track → Player → Framed
+frameOfTrack bank track player =
+    pick (channelsFit (track .voices) (player .channels))
+    (pick (eqb (player .stopped) 0)
+    (framed track player (settleFrom bank track 0 (track .voices) (player .channels)))
+    (unplayed Answer.Stopped player))
+    (unplayed (Answer.Refused invalid-record) player)
+
+-- after 1 to 9
+unfoldable pub frameOf : List ℕ → Places → ℕ → Player → Framed
+frameOf bank places track player =
+    pick (eqb (openTrack bank places track .number) 0)
+    (frameOfTrack bank (openTrack bank places track .track) player)
+    (unplayed (Answer.Refused (openTrack bank places track .number)) player)
+
+unfoldable pub startOf : List ℕ → Places → ℕ → Started
+startOf bank places track = record { number = openTrack bank places track .number; player = freshPlayer }
+
+abbrev pub answerNumber : Answer → ℕ
+answerNumber Answer.Events = 0
+answerNumber Answer.End = 0
+answerNumber Answer.Stopped = 0
+answerNumber (Answer.Refused number) = number
+answerNumber (Answer.Fault number i at) = number
+
+-- 0 events, 1 end, 2 stopped, 3 refused
+abbrev pub answerKind : Answer → ℕ
+answerKind Answer.Events = 0
+answerKind Answer.End = 1
+answerKind Answer.Stopped = 2
+answerKind (Answer.Refused number) = 3
+answerKind (Answer.Fault number i at) = 3
+
+-- channel and offset of a refusal 10 to 15, else 0
+abbrev pub answerPlace : Answer → List ℕ
+answerPlace Answer.Events = 0 ∷ 0 ∷ []
+answerPlace Answer.End = 0 ∷ 0 ∷ []
+answerPlace Answer.Stopped = 0 ∷ 0 ∷ []
+answerPlace (Answer.Refused number) = 0 ∷ 0 ∷ []
+answerPlace (Answer.Fault number i at) = i ∷ at ∷ []
+
+abbrev pub toldEvents : List Event → List ℕ
+toldEvents [] = []
+toldEvents (e ∷ es) = toldEvent e ++ toldEvents es
+
+-- the kind of answer, the commands read by channel, the place, then five values a channel
+abbrev pub toldFramed : Framed → Told
+toldFramed f = record {
+  number = answerNumber (f .answer);
+  values = answerKind (f .answer) ∷ f .counts ++ (answerPlace (f .answer) ++ toldEvents (f .events));
+}
+
+abbrev pub toldStarted : Started → Told
+toldStarted s = record { number = s .number; values = [] }

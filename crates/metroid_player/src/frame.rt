@@ -1,0 +1,286 @@
+// One frame of a track.
+use crate::event;
+use crate::event::Event;
+use crate::record;
+use crate::record::Channel;
+use crate::record::Player;
+use metroid_format::bank;
+use metroid_format::bank::Places;
+use metroid_format::channel;
+use metroid_format::channel::Cursor;
+use metroid_format::channel::Reading;
+use metroid_format::channel::Stop;
+use metroid_format::command::DATA_LIMIT;
+use metroid_format::header;
+use metroid_format::header::Track;
+use metroid_format::header::Voice;
+ghost use mathlib.Core.Path.{_≡_};
+ghost use mathlib.Core.Bool.{true};
+ghost use Prim.Native.Nat.{_≤_};
+ghost use Rattle.metroid_format.specs.Command.{data-limit};
+ghost use Rattle.metroid_format.specs.Channel.{readUntil};
+ghost use Rattle.metroid_player.specs.Record.{cursorOf, channelFits, channelsFit};
+ghost use Rattle.metroid_player.specs.Frame.{channelSource, begun, oneOff, playing, turnOfReading, turnOf, silent, settleFrom, framed, frameOfTrack, frameOf, startOf, toldFramed, toldStarted};
+ghost use Rattle.metroid_format.specs.Number.{Answers};
+
+// What a channel does in a frame.
+pub enum Turned {
+    // its event, and its record with the frame taken off
+    Plays(Event, Channel),
+    End,
+    // the number of the refusal and the offset of the byte
+    Refused(u32, usize),
+}
+
+pub struct Turn {
+    pub turned: Turned,
+    // commands read
+    pub count: u32,
+}
+
+pub enum Answer {
+    Events,
+    End,
+    Stopped,
+    // 1 to 9 and 16
+    Refused(u32),
+    // 10 to 15, the channel and the offset of the byte
+    Fault(u32, usize, usize),
+}
+
+pub struct Framed {
+    pub answer: Answer,
+    pub events: [Event; 4],
+    pub counts: [u32; 4],
+    pub player: Player,
+}
+
+pub struct Started {
+    // 0, or that of the refusal
+    pub number: u32,
+    pub player: Player,
+}
+
+// A note's record: the frames left are its length.
+fn begun_channel(cursor: Cursor, b: u8) -> Channel
+    requires { ⌜ (cursor .next ≤ data-limit) × (cursor .«loop_start» ≤ data-limit) ⌝ }
+    ensures { λ r. ⌜ r ≡ begun cursor b ⌝ }
+{
+    let length = cursor.length;
+    Channel {
+        next: cursor.next as u16,
+        loop_start: cursor.loop_start as u16,
+        counter: cursor.counter,
+        length: length.count,
+        left: length.count,
+        sounding: b,
+    }
+}
+
+// One frame is taken off.
+fn one_off(channel: Channel) -> Channel
+    ensures { λ r. ⌜ r ≡ oneOff channel ⌝ }
+{
+    let mut next = channel;
+    let left = channel.left;
+    if left == 0 {
+        return next;
+    }
+    next.left = left - 1;
+    next
+}
+
+// A channel that sounds, whose record has the frame not yet taken off.
+fn play(
+    bank: &[u8],
+    track: Track,
+    i: usize,
+    voice: Voice,
+    began: bool,
+    count: u32,
+    channel: Channel,
+) -> Turn
+    ensures { λ r. ⌜ r ≡ playing (now (bank .entry)) track i voice began count channel ⌝ }
+{
+    let event = event::event_of(bank, track, i, voice, channel, began);
+    let next = one_off(channel);
+    Turn {
+        turned: Turned::Plays(event, next),
+        count,
+    }
+}
+
+// Reads a channel's part of the bank until a note, the end or a fault.
+fn read_channel(bank: &[u8], track: Track, voice: Voice, channel: Channel) -> Reading
+    requires { ⌜ (channel .next ≤ data-limit) × (channel .«loop_start» ≤ data-limit) ⌝ }
+    ensures { λ r. ⌜ (r ≡ readUntil data-limit (channelSource (now (bank .entry)) track voice) (cursorOf channel)) × (r .cursor .next ≤ data-limit) × (r .cursor .«loop_start» ≤ data-limit) ⌝ }
+{
+    let kind = voice.kind;
+    let at = voice.data;
+    let table = track.lengths;
+    channel::read_until(
+        kind,
+        bank::part(bank, at, DATA_LIMIT),
+        bank::part(bank, table, bank::LENGTHS_SIZE),
+        track.window,
+        record::cursor_of(channel),
+    )
+}
+
+// A channel with no frames left reads.
+fn read_turn(bank: &[u8], track: Track, i: usize, voice: Voice, channel: Channel) -> Turn
+    requires { ⌜ (channel .next ≤ data-limit) × (channel .«loop_start» ≤ data-limit) ⌝ }
+    ensures { λ r. ⌜ r ≡ turnOfReading (now (bank .entry)) track i voice (readUntil data-limit (channelSource (now (bank .entry)) track voice) (cursorOf channel)) ⌝ }
+{
+    let reading = read_channel(bank, track, voice, channel);
+    let stop = reading.stop;
+    let count = reading.count;
+    match stop {
+        Stop::Note(b) => {
+            let cursor = reading.cursor;
+            play(bank, track, i, voice, true, count, begun_channel(cursor, b))
+        }
+        Stop::End => Turn {
+            turned: Turned::End,
+            count,
+        },
+        Stop::Refused(number, at) => Turn {
+            turned: Turned::Refused(number, at),
+            count,
+        },
+    }
+}
+
+// What the i-th channel does.
+fn take_turn(bank: &[u8], track: Track, i: usize, voice: Voice, channel: Channel) -> Turn
+    requires { ⌜ channelFits voice channel ≡ true ⌝ }
+    ensures { λ r. ⌜ r ≡ turnOf (now (bank .entry)) track i voice channel ⌝ }
+{
+    let used = voice.used;
+    if used {
+        if channel.left == 0 {
+            return read_turn(bank, track, i, voice, channel);
+        }
+        return play(bank, track, i, voice, false, 0, channel);
+    }
+    let event = event::off();
+    Turn {
+        turned: Turned::Plays(event, channel),
+        count: 0,
+    }
+}
+
+// What 16 tests.
+fn channels_fit(voices: [Voice; 4], channels: [Channel; 4]) -> bool
+    ensures { λ r. ⌜ r ≡ channelsFit voices channels ⌝ }
+{
+    let mut i: usize = 0;
+    while i < 4 {
+        let voice = voices[i];
+        let channel = channels[i];
+        if record::channel_fits(voice, channel) {
+            i += 1;
+        } else {
+            return false;
+        }
+    }
+    true
+}
+
+fn without_events(answer: Answer, counts: [u32; 4], player: Player) -> Framed
+    ensures { λ r. ⌜ r ≡ silent answer counts player ⌝ }
+{
+    let off = event::off();
+    Framed {
+        answer,
+        events: [off; 4],
+        counts,
+        player,
+    }
+}
+
+// The four channels, gone through in order.
+fn settle(bank: &[u8], track: Track, player: Player) -> Framed
+    requires { ⌜ channelsFit (track .voices) (player .channels) ≡ true ⌝ }
+    ensures { λ r. ⌜ r ≡ framed track player (settleFrom (now (bank .entry)) track 0 (track .voices) (player .channels)) ⌝ }
+{
+    let voices = track.voices;
+    let mut channels = player.channels;
+    let off = event::off();
+    let mut events = [off; 4];
+    let mut counts = [0u32; 4];
+    let mut i: usize = 0;
+    while i < 4 {
+        let voice = voices[i];
+        let channel = channels[i];
+        let turn = take_turn(bank, track, i, voice, channel);
+        let turned = turn.turned;
+        counts[i] = turn.count;
+        match turned {
+            Turned::Plays(event, next) => {
+                events[i] = event;
+                channels[i] = next;
+                i += 1;
+            }
+            Turned::End => {
+                let ended = record::ended(track.restart);
+                return without_events(Answer::End, counts, ended);
+            }
+            Turned::Refused(number, at) => {
+                return without_events(Answer::Fault(number, i, at), counts, player);
+            }
+        }
+    }
+    let stopped = player.stopped;
+    let next = Player { stopped, channels };
+    Framed {
+        answer: Answer::Events,
+        events,
+        counts,
+        player: next,
+    }
+}
+
+// A frame of an opened track: 16, then Stopped, then reading.
+fn frame_of_track(bank: &[u8], track: Track, player: Player) -> Framed
+    ensures { λ r. ⌜ r ≡ frameOfTrack (now (bank .entry)) track player ⌝ }
+{
+    let voices = track.voices;
+    let channels = player.channels;
+    let none = [0u32; 4];
+    if channels_fit(voices, channels) {
+        if player.stopped == 0 {
+            return settle(bank, track, player);
+        }
+        return without_events(Answer::Stopped, none, player);
+    }
+    without_events(Answer::Refused(record::INVALID_RECORD), none, player)
+}
+
+impl Player {
+    // Tests 1 to 9. The record is fresh either way.
+    pub fn start(bank: &[u8], places: Places, track: u32) -> Started
+        ensures { λ r. ⌜ Answers toldStarted r (startOf (now (bank .entry)) places track) ⌝ }
+    {
+        let opened = header::open(bank, places, track);
+        let player = record::fresh();
+        Started {
+            number: opened.number,
+            player,
+        }
+    }
+
+    // The next frame: tests 1 to 9, then 16, then Stopped, then reads.
+    pub fn frame(self, bank: &[u8], places: Places, track: u32) -> Framed
+        ensures { λ r. ⌜ Answers toldFramed r (frameOf (now (bank .entry)) places track self) ⌝ }
+    {
+        let opened = header::open(bank, places, track);
+        let number = opened.number;
+        if number == 0 {
+            let opened_track = opened.track;
+            return frame_of_track(bank, opened_track, self);
+        }
+        let none = [0u32; 4];
+        without_events(Answer::Refused(number), none, self)
+    }
+}

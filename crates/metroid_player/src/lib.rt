@@ -1,0 +1,6 @@
+// The player: a track of a lent bank, frame by frame.
+pub mod ctrl1;
+pub mod event;
+pub mod frame;
+pub mod record;
+pub mod release;

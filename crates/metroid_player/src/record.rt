@@ -1,0 +1,103 @@
+// The player's record, and what is refused of one.
+use metroid_format::channel::Cursor;
+use metroid_format::channel::Frames;
+use metroid_format::command;
+use metroid_format::header::Voice;
+ghost use mathlib.Core.Path.{_≡_};
+ghost use Rattle.metroid_player.specs.Record.{freshChannel, freshPlayer, endedPlayer, cursorOf, channelFits};
+
+pub const INVALID_RECORD: u32 = 16;
+
+#[repr(C)]
+pub struct Channel {
+    pub next: u16,
+    pub loop_start: u16,
+    pub counter: u8,
+    // 0: none yet
+    pub length: u8,
+    pub left: u8,
+    pub sounding: u8,
+}
+
+#[repr(C)]
+pub struct Player {
+    // any value but 0 is the stopped mark
+    pub stopped: u8,
+    // square 1, square 2, triangle, noise
+    pub channels: [Channel; 4],
+}
+
+fn fresh_channel() -> Channel
+    ensures { λ r. ⌜ r ≡ freshChannel ⌝ }
+{
+    Channel {
+        next: 0,
+        loop_start: 0,
+        counter: 0,
+        length: 0,
+        left: 0,
+        sounding: 0,
+    }
+}
+
+pub fn fresh() -> Player
+    ensures { λ r. ⌜ r ≡ freshPlayer ⌝ }
+{
+    let channel = fresh_channel();
+    Player {
+        stopped: 0,
+        channels: [channel; 4],
+    }
+}
+
+// The record after the end: fresh, and stopped unless the track restarts.
+pub fn ended(restart: bool) -> Player
+    ensures { λ r. ⌜ r ≡ endedPlayer restart ⌝ }
+{
+    if restart {
+        return fresh();
+    }
+    let mut player = fresh();
+    player.stopped = 1;
+    player
+}
+
+pub fn cursor_of(channel: Channel) -> Cursor
+    ensures { λ r. ⌜ r ≡ cursorOf channel ⌝ }
+{
+    let next = channel.next as usize;
+    let loop_start = channel.loop_start as usize;
+    let length = Frames {
+        count: channel.length,
+    };
+    Cursor {
+        next,
+        loop_start,
+        counter: channel.counter,
+        length,
+    }
+}
+
+// What is not refused under 16: an unused channel, or offsets within the data's limit and a note that can be sounding.
+pub fn channel_fits(voice: Voice, channel: Channel) -> bool
+    ensures { λ r. ⌜ r ≡ channelFits voice channel ⌝ }
+{
+    let used = voice.used;
+    let kind = voice.kind;
+    if used {
+        if command::DATA_LIMIT < channel.next as usize {
+            return false;
+        }
+        if command::DATA_LIMIT < channel.loop_start as usize {
+            return false;
+        }
+        if channel.left == 0 {
+            return true;
+        }
+        if channel.length < channel.left {
+            return false;
+        }
+        return command::is_note(kind, channel.sounding);
+    }
+    true
+}
