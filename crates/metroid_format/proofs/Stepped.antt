@@ -1,54 +1,22 @@
--- What a command can do to a cursor: the cases of `commandAt` and `stepOf`, with what holds in each.
+-- What a command can do to a cursor: the cases of `playedAt` and `stepOf`, with what holds in each.
 use Prim.Native.Nat.{ℕ, _+_, _-_, _/_, _%_, _≤_, _<_}
 use mathlib.Core.Bool.{true}
 use mathlib.Core.List.{List}
-use mathlib.Core.Path.{_≡_}
+use mathlib.Core.Path.{_≡_, refl}
 use native.Mathlib.Omega.{arith}
-use borrow.Author.Tests.{leb-false, eqb-true, eqb-false}
+use borrow.Author.Tests.{eqb-true, eqb-false}
 use lib.Dec.{leb, eqb}
 use lib.ListN.{length, getD}
-use Rattle.metroid_format.specs.Number.{past-data, invalid-command, invalid-note}
-use Rattle.metroid_format.specs.Command.{isNote, noteAfter, commandOf, commandAt}
+use Rattle.metroid_format.specs.Command.{isNote, commandAt}
 use Rattle.metroid_format.specs.Channel.{Source, lengthFault, lengthAt, counterOf, playedOf, playedBy, playedAt, stepBy, stepOf}
 use Rattle.metroid_format.proofs.Picks.{by-test}
-use Rattle.metroid_format.specs.declared.command.Kind.{Kind}
+use Rattle.metroid_format.proofs.command.Laws.{Stands, is-end, is-end-loop, is-begin, is-length, is-note, found}
 use Rattle.metroid_format.specs.declared.command.Command.{Command}
 use Rattle.metroid_format.specs.declared.command.Decoded.{Decoded}
 use Rattle.metroid_format.specs.declared.channel.Frames.{Frames}
 use Rattle.metroid_format.specs.declared.channel.Cursor.{Cursor}
 use Rattle.metroid_format.specs.declared.channel.Played.{Played}
 use Rattle.metroid_format.specs.declared.channel.Step.{Step}
-
-data Decodes (kind : Kind) (bytes : List ℕ) (at : ℕ) : Decoded → Type 0 where
-  end : at < length bytes → Decodes kind bytes at (Decoded.Found Command.End (at + 1))
-  end-loop : at < length bytes → getD bytes at 0 ≡ 0xff → Decodes kind bytes at (Decoded.Found Command.EndLoop (at + 1))
-  begin-loop : (n : ℕ) → at < length bytes → (getD bytes at 0 ≡ 0xff → ⊥) → n < 64 → Decodes kind bytes at (Decoded.Found (Command.BeginLoop n) (at + 1))
-  long : (note : ℕ) → at + 1 < length bytes → getD bytes at 0 / 16 ≡ 0x0b → isNote kind note ≡ true →
-      Decodes kind bytes at (Decoded.Found (Command.Length (getD bytes at 0 % 16) note) (at + 1 + 1))
-  lone : (note : ℕ) → at < length bytes → isNote kind note ≡ true → Decodes kind bytes at (Decoded.Found (Command.Note note) (at + 1))
-  refused : (number place : ℕ) → Decodes kind bytes at (Decoded.Refused number place)
-
-decodes : (kind : Kind) (bytes : List ℕ) (at : ℕ) → Decodes kind bytes at (commandAt kind bytes at)
-unfolding commandAt commandOf noteAfter
-decodes kind bytes at =
-    by-test D (leb (length bytes) at) (λ _. refused past-data at) λ past.
-    let within : at < length bytes = leb-false _ _ past in
-    by-test D (eqb b 0x00) (λ _. end within) λ _.
-    by-test D (eqb b 0xff) (λ e. end-loop within (eqb-true _ _ e)) λ e.
-    by-test D (eqb (b / 64) 3) (λ _. begin-loop (b % 64) within (eqb-false _ _ e) (omega arith)) λ _.
-    by-test D (eqb (b / 16) 0x0b)
-    (λ l.
-    by-test D (leb (length bytes) (at + 1)) (λ _. refused past-data (at + 1)) λ past′.
-    by-test D (isNote kind (getD bytes (at + 1) 0))
-    (λ n. long _ (leb-false _ _ past′) (eqb-true _ _ l) n) λ _. refused invalid-note (at + 1)) λ _.
-    by-test D (leb 0x80 b) (λ _. refused invalid-command at) λ _.
-    by-test D (isNote kind b) (λ n. lone b within n) λ _. refused invalid-note at
-  where
-    D : Decoded → Type 0
-    D d = Decodes kind bytes at d
-
-    b : ℕ
-    b = getD bytes at 0
 
 counter-bound : (n : ℕ) → n < 64 → counterOf n ≤ 255
 unfolding counterOf
@@ -82,23 +50,29 @@ pub plays : (source : Source) (at : ℕ) (current : Frames) → Plays source at 
 unfolding playedAt
 plays source at current =
     by-test (Plays source at current) (eqb (lengthFault (source .lengths) (source .window) b) 0)
-    (λ z. from _ (decodes (source .kind) (source .bytes) at) (eqb-true _ _ z)) λ _.
+    (λ z. from (commandAt (source .kind) (source .bytes) at) refl (eqb-true _ _ z)) λ _.
     refused _ at
   where
     b : ℕ
     b = getD (source .bytes) at 0
 
-    from : (d : Decoded) → Decodes (source .kind) (source .bytes) at d → lengthFault (source .lengths) (source .window) b ≡ 0 →
-        Plays source at current (playedBy (playedOf (source .lengths) (source .window) at current) d)
-    from _ (Decodes.end h) z = end h
-    from _ (Decodes.end-loop h e) z = end-loop h e
-    from _ (Decodes.begin-loop n h e m) z = begin-loop (counterOf n) h e (counter-bound n m)
-    from _ (Decodes.long note h e n) z = long note _ h (length-above (source .lengths) (source .window) b e z) n
-    from _ (Decodes.lone note h n) z =
+    stand : {c : Command} {next : ℕ} → Stands (source .kind) (source .bytes) at c next → lengthFault (source .lengths) (source .window) b ≡ 0 →
+        Plays source at current (playedOf (source .lengths) (source .window) at current c next)
+    stand (is-end h e) z = end h
+    stand (is-end-loop h e) z = end-loop h e
+    stand (is-begin n s h e) z = begin-loop (counterOf n) h (λ q. omega arith) (counter-bound n (omega arith))
+    stand (is-length l note s y h e g) z =
+        let r : b % 16 ≡ l = omega arith in
+        rw (← r) (long note _ h (length-above (source .lengths) (source .window) b (omega arith) z) y)
+    stand (is-note note p s y h e) z =
         by-test (Plays source at current) (eqb (current .count) 0) (λ _. refused _ at) λ t.
         let above : current .count ≡ 0 → ⊥ = eqb-false _ _ t in
-        lone note h (omega arith) n
-    from _ (Decodes.refused number place) z = refused number place
+        lone note h (omega arith) y
+
+    from : (d : Decoded) → commandAt (source .kind) (source .bytes) at ≡ d → lengthFault (source .lengths) (source .window) b ≡ 0 →
+        Plays source at current (playedBy (playedOf (source .lengths) (source .window) at current) d)
+    from (Decoded.Found c next) e z = stand (found (source .kind) (source .bytes) at e) z
+    from (Decoded.Refused number place) e z = refused number place
 
 pub data Stepped (source : Source) (cursor : Cursor) : Step → Type 0 where
   begins : (counter : ℕ) → cursor .next < length (source .bytes) → (getD (source .bytes) (cursor .next) 0 ≡ 0xff → ⊥) → counter ≤ 255 →
