@@ -24,7 +24,7 @@ ghost use Rattle.metroid_player.specs.Frame.{channelSource, begun, oneOf
 ghost use Rattle.metroid_format.specs.Number.{Answers};
 
 // What a channel does in a frame.
-pub enum Turned {
+enum Turned {
     // its event, and its record with the frame taken off
     Plays(Event, Channel),
     End,
@@ -32,7 +32,7 @@ pub enum Turned {
     Refused(u32, usize),
 }
 
-pub struct Turn {
+struct Turn {
     pub turned: Turned,
     // commands read
     pub count: u32,

@@ -1,0 +1,4 @@
+pub mod Found
+pub mod Run
+pub mod Demand3
+pub mod Passes

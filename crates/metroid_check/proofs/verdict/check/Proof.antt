@@ -1,0 +1,18 @@
+use borrow.Author.Needs.{needs}
+use Rattle.metroid_check.proofs.verdict.Laws.{opened-verdict, unopened-verdict}
+use Rattle.metroid_check.proofs.Demand3.{foreseen}
+use Rattle.metroid_check.proofs.verdict.check.Statement.{statement}
+use Rattle.metroid_check.proofs.verdict.check.Tie as tie
+
+pub check-spec : {M : Type 1} → statement M
+check-spec =
+    tie.close
+    (tie.spec
+    (λ c κs. search needs)
+    (λ c κs. search needs)
+    (λ c κs. search needs)
+    (λ c.
+    foreseen _ _ _ _
+    (opened-verdict _ _ _ _ (c .before .before .before .before .«open» .ensures .same) (c .before .before .before .if1 .taken) _
+    (c .before .soonest-of .ensures) _ (c .verdict-of .ensures)))
+    (λ c. foreseen _ _ _ _ (unopened-verdict _ _ _ _ (c .before .«open» .ensures .same) (c .if1 .left))))

@@ -1,0 +1,14 @@
+use borrow.Author.Needs.{needs}
+use Rattle.metroid_format.proofs.Picks.{picks}
+use Rattle.metroid_check.specs.Verdict.{stopOf}
+use Rattle.metroid_check.proofs.verdict.stop_of.Statement.{statement}
+use Rattle.metroid_check.proofs.verdict.stop_of.Tie as tie
+
+pub stop-of-spec : {M : Type 1} → statement M
+unfolding stopOf
+stop-of-spec =
+    tie.close
+    (tie.spec
+    (λ c κs. search needs)
+    (λ c. rw (c .timeline-of .ensures) (search (picks, needs) depth 12))
+    (λ c. search (picks, needs) depth 12))

@@ -1,0 +1,52 @@
+-- The check: the least stop of the used channels, by frame and then by channel.
+use Prim.Native.Nat.{ℕ, _+_}
+use mathlib.Core.List.{List, [], _∷_}
+use lib.Dec.{leb, eqb}
+use Rattle.metroid_format.specs.Pick.{pick}
+use Rattle.metroid_format.specs.Number.{Told, no-channel}
+use Rattle.metroid_format.specs.Header.{openTrack}
+use Rattle.metroid_format.specs.Timeline.{timelineOf}
+use Rattle.metroid_format.specs.declared.bank.Places.{Places}
+use Rattle.metroid_format.specs.declared.header.Voice.{Voice}
+use Rattle.metroid_format.specs.declared.header.Track.{Track}
+use Rattle.metroid_format.specs.declared.command.Finish.{Finish}
+use Rattle.metroid_format.specs.declared.timeline.Timeline.{Timeline}
+use Rattle.metroid_player.specs.Frame.{channelSource}
+use Rattle.metroid_check.specs.declared.verdict.Soonest.{Soonest}
+use Rattle.metroid_check.specs.declared.verdict.Verdict.{Verdict}
+
+abbrev pub stopOfTimeline : ℕ → Timeline → Soonest
+stopOfTimeline i timeline = Soonest.Stop (timeline .frames) i (timeline .finish)
+
+-- the i-th channel by itself
+unfoldable pub stopOf : List ℕ → Track → ℕ → Voice → Soonest
+stopOf bank track i voice = pick (voice .used) (stopOfTimeline i (timelineOf (channelSource bank track voice))) Soonest.Nothing
+
+-- in one frame the channel that goes first stops it
+abbrev pub sooner : Soonest → Soonest → Soonest
+sooner Soonest.Nothing other = other
+sooner (Soonest.Stop m i finish) Soonest.Nothing = Soonest.Stop m i finish
+sooner (Soonest.Stop m i finish) (Soonest.Stop n j other) = pick (leb m n) (Soonest.Stop m i finish) (Soonest.Stop n j other)
+
+unfoldable pub soonestFrom : List ℕ → Track → ℕ → List Voice → Soonest
+soonestFrom bank track i [] = Soonest.Nothing
+soonestFrom bank track i (v ∷ vs) = sooner (stopOf bank track i v) (soonestFrom bank track (i + 1) vs)
+
+-- an end passes; some channel of an opened track is used
+abbrev pub verdictBy : Soonest → Verdict
+verdictBy Soonest.Nothing = Verdict.Refused no-channel
+verdictBy (Soonest.Stop frame channel Finish.End) = Verdict.Pass frame channel
+verdictBy (Soonest.Stop frame channel (Finish.Refused number at)) = Verdict.Fault number channel at frame
+
+-- 1 to 9 come first
+unfoldable pub verdictOf : List ℕ → Places → ℕ → Verdict
+verdictOf bank places track =
+    pick (eqb (openTrack bank places track .number) 0)
+    (verdictBy (soonestFrom bank (openTrack bank places track .track) 0 (openTrack bank places track .track .voices)))
+    (Verdict.Refused (openTrack bank places track .number))
+
+-- 0, the frame and the channel; or the number, and for 10 to 15 the channel, the offset and the frame
+abbrev pub toldVerdict : Verdict → Told
+toldVerdict (Verdict.Pass frame channel) = record { number = 0; values = frame ∷ channel ∷ [] }
+toldVerdict (Verdict.Refused number) = record { number = number; values = [] }
+toldVerdict (Verdict.Fault number channel at frame) = record { number = number; values = channel ∷ at ∷ frame ∷ [] }

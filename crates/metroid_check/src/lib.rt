@@ -1,0 +1,2 @@
+// The check of a track, before it is played.
+pub mod verdict;
