@@ -14,8 +14,8 @@ use Rattle.metroid_player.specs.Record.{freshPlayer}
 use Rattle.metroid_player.specs.Counts.{most-commands}
 use Rattle.metroid_player.specs.Frame.{startOf, frameOf, frameOfTrack}
 use Rattle.metroid_player.specs.declared.record.Player.{Player}
-use Rattle.metroid_player.proofs.Counts.{none-most}
-use Rattle.metroid_player.proofs.Starting.{aheadOf, starts, opened-frame, unopened-frame}
+use Rattle.metroid_player.proofs.frame.Counts.{none-most}
+use Rattle.metroid_player.proofs.frame.Starting.{aheadOf, starts, opened-frame, unopened-frame}
 use Rattle.metroid_check.specs.Run.{
   nothing,
   framesFrom,

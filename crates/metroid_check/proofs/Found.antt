@@ -13,9 +13,9 @@ use Rattle.metroid_format.specs.declared.header.Voice.{Voice}
 use Rattle.metroid_format.specs.declared.header.Track.{Track}
 use Rattle.metroid_format.specs.declared.command.Finish.{Finish}
 use Rattle.metroid_player.specs.Frame.{channelSource}
-use Rattle.metroid_player.proofs.Settling.{Ahead, nothing, stop}
-use Rattle.metroid_player.proofs.Starting.{SomeStop, aheadOf}
-use Rattle.metroid_player.proofs.Foreseen.{NoneBefore, Least}
+use Rattle.metroid_player.proofs.frame.Settling.{Ahead, nothing, stop}
+use Rattle.metroid_player.proofs.frame.Starting.{SomeStop, aheadOf}
+use Rattle.metroid_player.proofs.frame.Foreseen.{NoneBefore, Least}
 use Rattle.metroid_check.specs.Verdict.{stopOf, sooner, soonestFrom}
 use Rattle.metroid_check.specs.declared.verdict.Soonest.{Soonest}
 

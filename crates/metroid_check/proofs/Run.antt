@@ -14,11 +14,11 @@ use Rattle.metroid_player.specs.Frame.{frameOfTrack}
 use Rattle.metroid_player.specs.declared.record.Player.{Player}
 use Rattle.metroid_player.specs.declared.frame.Answer.{Answer}
 use Rattle.metroid_player.specs.declared.frame.Framed.{Framed}
-use Rattle.metroid_player.proofs.Counts.{none-most}
-use Rattle.metroid_player.proofs.Settling.{Ahead}
-use Rattle.metroid_player.proofs.Framing.{InRun, run-counts}
-use Rattle.metroid_player.proofs.Starting.{aheadOf, Starts, stays-stopped}
-use Rattle.metroid_player.proofs.Foreseen.{Least, plays-before, stops-at}
+use Rattle.metroid_player.proofs.frame.Counts.{none-most}
+use Rattle.metroid_player.proofs.frame.Settling.{Ahead}
+use Rattle.metroid_player.proofs.frame.Framing.{InRun, run-counts}
+use Rattle.metroid_player.proofs.frame.Starting.{aheadOf, Starts, stays-stopped}
+use Rattle.metroid_player.proofs.frame.Foreseen.{Least, plays-before, stops-at}
 use Rattle.metroid_check.specs.Run.{Shown, nothing, shown, End, Refusal, ofData, framesFrom, endFrom, refusalFrom, ReadAtMost}
 use Rattle.metroid_check.specs.Demand3.{ifReached}
 

@@ -1,10 +1,3 @@
 pub mod Picks
 pub mod Buffers
-pub mod Opening
 pub mod Fuel
-pub mod Reading
-pub mod Stepped
-pub mod ReadBound
-pub mod Walked
-pub mod PassBound
-pub mod PassLoop

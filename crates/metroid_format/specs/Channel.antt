@@ -107,7 +107,7 @@ readBy on cursor count (Step.Note b next) = record { stop = Stop.Note b; count =
 readBy on cursor count Step.End = record { stop = Stop.End; count = count + 1; cursor = cursor }
 readBy on cursor count (Step.Refused number at) = record { stop = Stop.Refused number at; count = count; cursor = cursor }
 
--- commands until a note, end or fault, with those read before; never more of them than the fuel (proofs/ReadBound.antt)
+-- commands until a note, end or fault, with those read before; never more of them than the fuel (proofs/channel/ReadBound.antt)
 unfoldable pub readFrom : Source → ℕ → Cursor → ℕ → Reading
 readFrom source zero cursor count = record { stop = Stop.Refused past-data (cursor .next); count = count; cursor = cursor }
 readFrom source (suc fuel) cursor count = readBy (readFrom source fuel) cursor count (stepOf source cursor)

@@ -88,7 +88,7 @@ abbrev pub passBy : (Pass → Timeline) → Pass → Passed → Timeline
 passBy on pass (Passed.On after) = on after
 passBy on pass (Passed.Finished finish) = record { frames = pass .frames; finish = finish }
 
--- every command passes a byte, so that the fuel is never used up (proofs/Walked.antt)
+-- every command passes a byte, so that the fuel is never used up (proofs/timeline/Walked.antt)
 unfoldable pub passFrom : Source → ℕ → Pass → Timeline
 passFrom source zero pass = record { frames = pass .frames; finish = Finish.Refused past-data (pass .next) }
 passFrom source (suc fuel) pass = passBy (passFrom source fuel) pass (passedOf source pass)

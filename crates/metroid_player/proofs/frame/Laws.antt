@@ -20,7 +20,7 @@ use Rattle.metroid_format.specs.declared.channel.Cursor.{Cursor}
 use Rattle.metroid_format.specs.declared.channel.Stop.{Stop}
 use Rattle.metroid_format.specs.declared.channel.Reading.{Reading}
 use Rattle.metroid_format.proofs.Picks.{by-test, false-true, pick-true, pick-false, pick-eq, pick-ne}
-use Rattle.metroid_format.proofs.ReadBound.{Placed, reads, reads-placed}
+use Rattle.metroid_format.proofs.channel.ReadBound.{Placed, reads, reads-placed}
 use Rattle.metroid_player.specs.Record.{four, endedPlayer, cursorOf, channelFits, channelsFit}
 use Rattle.metroid_player.specs.Event.{offEvent}
 use Rattle.metroid_player.specs.Frame.{channelSource, begun, turnBy, oneOff, playing, turnOfReading, turnOf, Settled, settled, settleBy, settleTurn, settleFrom, silent, framed}

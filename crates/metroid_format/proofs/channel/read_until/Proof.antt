@@ -5,7 +5,7 @@ use borrow.Author.Needs.{needs}
 use Rattle.metroid_format.specs.Command.{data-limit}
 use Rattle.metroid_format.specs.Channel.{sourceOf, fuelOf, readFrom, readUntil}
 use Rattle.metroid_format.proofs.Picks.{answers}
-use Rattle.metroid_format.proofs.Reading.{read-turn, read-none}
+use Rattle.metroid_format.proofs.channel.ReadSteps.{read-turn, read-none}
 use Rattle.metroid_format.proofs.channel.read_until.Statement.{statement}
 use Rattle.metroid_format.proofs.channel.read_until.Tie as tie
 

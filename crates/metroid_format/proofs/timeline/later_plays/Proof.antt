@@ -2,7 +2,7 @@ use Prim.Native.Nat.{_+_, _*_, _≤_}
 use mathlib.Core.Path.{refl}
 use native.Mathlib.Omega.{arith}
 use Rattle.metroid_format.specs.Command.{data-limit}
-use Rattle.metroid_format.proofs.PassBound.{one-play, later-plays}
+use Rattle.metroid_format.proofs.timeline.PassBound.{one-play, later-plays}
 use Rattle.metroid_format.proofs.timeline.later_plays.Statement.{statement}
 use Rattle.metroid_format.proofs.timeline.later_plays.Tie as tie
 

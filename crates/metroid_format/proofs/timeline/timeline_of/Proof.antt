@@ -6,8 +6,8 @@ use borrow.Author.Needs.{needs}
 use lib.ListN.{length, length-take}
 use Rattle.metroid_format.specs.Channel.{sourceOf}
 use Rattle.metroid_format.specs.Timeline.{passFrom, timelineOf}
-use Rattle.metroid_format.proofs.PassBound.{Bounded}
-use Rattle.metroid_format.proofs.PassLoop.{pass-turn, pass-none, pass-bounded, timed}
+use Rattle.metroid_format.proofs.timeline.PassBound.{Bounded}
+use Rattle.metroid_format.proofs.timeline.PassLoop.{pass-turn, pass-none, pass-bounded, timed}
 use Rattle.metroid_format.proofs.timeline.timeline_of.Statement.{statement}
 use Rattle.metroid_format.proofs.timeline.timeline_of.Tie as tie
 

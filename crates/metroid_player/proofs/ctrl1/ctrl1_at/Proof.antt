@@ -5,7 +5,7 @@ use borrow.Author.Needs.{needs}
 use borrow.Author.Tests.{eq-eqb, ne-eqb, le-leb, lt-leb}
 use lib.ListN.{length, drop, drop-of-length-le}
 use Rattle.metroid_player.specs.Ctrl1.{ctrl1At}
-use Rattle.metroid_player.proofs.Envelope.{envelope-turn}
+use Rattle.metroid_player.proofs.ctrl1.Envelope.{envelope-turn}
 use Rattle.metroid_player.proofs.ctrl1.ctrl1_at.Statement.{statement}
 use Rattle.metroid_player.proofs.ctrl1.ctrl1_at.Tie as tie
 

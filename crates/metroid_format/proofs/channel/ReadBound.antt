@@ -9,8 +9,8 @@ use lib.ListN.{length, getD, List·getD-eq-default}
 use Rattle.metroid_format.specs.Pick.{pick}
 use Rattle.metroid_format.specs.Channel.{Source, stepOf, readBy, readFrom, readUntil, fuelOf}
 use Rattle.metroid_format.proofs.Picks.{by-test}
-use Rattle.metroid_format.proofs.Stepped.{Stepped, begins, goes-on, goes-back, notes, ends, refuses, stepped}
-use Rattle.metroid_format.proofs.Reading.{Reads, again, note, end, refused}
+use Rattle.metroid_format.proofs.channel.Stepped.{Stepped, begins, goes-on, goes-back, notes, ends, refuses, stepped}
+use Rattle.metroid_format.proofs.channel.ReadSteps.{Reads, again, note, end, refused}
 use Rattle.metroid_format.specs.declared.channel.Cursor.{Cursor}
 use Rattle.metroid_format.specs.declared.channel.Step.{Step}
 use Rattle.metroid_format.specs.declared.channel.Reading.{Reading}

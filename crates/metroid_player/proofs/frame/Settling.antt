@@ -17,8 +17,8 @@ use Rattle.metroid_player.specs.declared.event.Event.{Event}
 use Rattle.metroid_player.specs.declared.frame.Turned.{Turned}
 use Rattle.metroid_player.specs.declared.frame.Turn.{Turn}
 use Rattle.metroid_player.specs.declared.frame.Answer.{Answer}
-use Rattle.metroid_player.proofs.Counts.{AllPlaced}
-use Rattle.metroid_player.proofs.Running.{unused-fits, turn-unused, Running, running-fits, Turns, turns}
+use Rattle.metroid_player.proofs.frame.Counts.{AllPlaced}
+use Rattle.metroid_player.proofs.frame.Running.{unused-fits, turn-unused, Running, running-fits, Turns, turns}
 
 -- what is ahead of a channel: nothing of an unused one, else its stop after so many frames
 pub data Ahead : Type 0 where

@@ -11,10 +11,10 @@ use Rattle.metroid_format.specs.Command.{data-limit, isNote}
 use Rattle.metroid_format.specs.Channel.{Source, readUntil}
 use Rattle.metroid_format.specs.Timeline.{Walk}
 use Rattle.metroid_format.proofs.Picks.{pick-false, by-test, false-true}
-use Rattle.metroid_format.proofs.Stepped.{Stepped, notes, stepped}
-use Rattle.metroid_format.proofs.Reading.{Reads, again, note, end, refused}
-use Rattle.metroid_format.proofs.ReadBound.{Placed, reads, reads-placed}
-use Rattle.metroid_format.proofs.Walked.{WalkAfter, read-walk}
+use Rattle.metroid_format.proofs.channel.Stepped.{Stepped, notes, stepped}
+use Rattle.metroid_format.proofs.channel.ReadSteps.{Reads, again, note, end, refused}
+use Rattle.metroid_format.proofs.channel.ReadBound.{Placed, reads, reads-placed}
+use Rattle.metroid_format.proofs.timeline.Walked.{WalkAfter, read-walk}
 use Rattle.metroid_format.specs.declared.header.Voice.{Voice}
 use Rattle.metroid_format.specs.declared.header.Track.{Track}
 use Rattle.metroid_format.specs.declared.command.Finish.{Finish}
@@ -22,7 +22,7 @@ use Rattle.metroid_format.specs.declared.channel.Cursor.{Cursor}
 use Rattle.metroid_format.specs.declared.channel.Step.{Step}
 use Rattle.metroid_format.specs.declared.channel.Stop.{Stop}
 use Rattle.metroid_format.specs.declared.channel.Reading.{Reading}
-use Rattle.metroid_player.proofs.Counts.{source-within}
+use Rattle.metroid_player.proofs.frame.Counts.{source-within}
 use Rattle.metroid_player.specs.Record.{cursorOf, soundFits, channelFits}
 use Rattle.metroid_player.specs.Event.{offEvent}
 use Rattle.metroid_player.specs.Counts.{pairs}

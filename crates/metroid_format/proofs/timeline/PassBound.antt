@@ -7,7 +7,7 @@ use lib.Dec.{eqb}
 use lib.ListN.{length, getD}
 use Rattle.metroid_format.specs.Channel.{Source, playedAt}
 use Rattle.metroid_format.specs.Timeline.{frames-a-byte, afterLone, passedBy, passedOf}
-use Rattle.metroid_format.proofs.Stepped.{Plays, plays}
+use Rattle.metroid_format.proofs.channel.Stepped.{Plays, plays}
 use Rattle.metroid_format.specs.declared.channel.Played.{Played}
 use Rattle.metroid_format.specs.declared.timeline.Pass.{Pass}
 use Rattle.metroid_format.specs.declared.timeline.Passed.{Passed}

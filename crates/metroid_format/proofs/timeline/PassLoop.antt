@@ -7,8 +7,8 @@ use Rattle.metroid_format.specs.Channel.{Source}
 use Rattle.metroid_format.specs.Timeline.{frames-a-byte, passedOf, passBy, passFrom, timelineOf, Timed}
 use Rattle.metroid_format.proofs.Picks.{answers}
 use Rattle.metroid_format.proofs.Fuel.{turn}
-use Rattle.metroid_format.proofs.PassBound.{Bounded, BoundedBy, bounded}
-use Rattle.metroid_format.proofs.Walked.{timeline-walk}
+use Rattle.metroid_format.proofs.timeline.PassBound.{Bounded, BoundedBy, bounded}
+use Rattle.metroid_format.proofs.timeline.Walked.{timeline-walk}
 use Rattle.metroid_format.specs.declared.command.Finish.{Finish}
 use Rattle.metroid_format.specs.declared.timeline.Timeline.{Timeline}
 use Rattle.metroid_format.specs.declared.timeline.Pass.{Pass}

@@ -12,8 +12,8 @@ use Rattle.metroid_format.specs.Number.{no-length}
 use Rattle.metroid_format.specs.Command.{commandAt}
 use Rattle.metroid_format.specs.Channel.{Source, freshCursor, lengthFault, playedOf, playedBy, playedAt, stepBy, stepOf}
 use Rattle.metroid_format.specs.Timeline.{Walk, again, note, ended, refused, afterLone, passedBy, passedOf, passBy, passFrom, freshPass, timelineOf}
-use Rattle.metroid_format.proofs.Stepped.{Plays, plays}
-use Rattle.metroid_format.proofs.Reading.{Reads}
+use Rattle.metroid_format.proofs.channel.Stepped.{Plays, plays}
+use Rattle.metroid_format.proofs.channel.ReadSteps.{Reads}
 use Rattle.metroid_format.specs.declared.command.Command.{Command}
 use Rattle.metroid_format.specs.declared.command.Decoded.{Decoded}
 use Rattle.metroid_format.specs.declared.channel.Frames.{Frames}

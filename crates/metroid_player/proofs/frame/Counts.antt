@@ -12,7 +12,7 @@ use Rattle.metroid_format.specs.Command.{data-limit}
 use Rattle.metroid_format.specs.Channel.{readUntil}
 use Rattle.metroid_format.specs.Header.{openTrack}
 use Rattle.metroid_format.proofs.Picks.{by-test, false-true}
-use Rattle.metroid_format.proofs.ReadBound.{Placed, count-bound}
+use Rattle.metroid_format.proofs.channel.ReadBound.{Placed, count-bound}
 use Rattle.metroid_format.specs.declared.bank.Places.{Places}
 use Rattle.metroid_format.specs.declared.header.Voice.{Voice}
 use Rattle.metroid_format.specs.declared.header.Track.{Track}

@@ -12,8 +12,8 @@ use Rattle.metroid_player.specs.Frame.{frameOfTrack}
 use Rattle.metroid_player.specs.declared.record.Player.{Player}
 use Rattle.metroid_player.specs.declared.frame.Answer.{Answer}
 use Rattle.metroid_player.specs.declared.frame.Framed.{Framed}
-use Rattle.metroid_player.proofs.Framing.{InRun, Frames, events, ends, faults, frames}
-use Rattle.metroid_player.proofs.Settling.{Ahead, nothing, stop, Nearer, Due}
+use Rattle.metroid_player.proofs.frame.Framing.{InRun, Frames, events, ends, faults, frames}
+use Rattle.metroid_player.proofs.frame.Settling.{Ahead, nothing, stop, Nearer, Due}
 
 -- no stop of a list is before frame n
 abbrev pub NoneBefore : ℕ → List Ahead → Type 0

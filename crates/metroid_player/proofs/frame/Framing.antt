@@ -19,8 +19,8 @@ use Rattle.metroid_player.specs.declared.record.Player.{Player}
 use Rattle.metroid_player.specs.declared.event.Event.{Event}
 use Rattle.metroid_player.specs.declared.frame.Answer.{Answer}
 use Rattle.metroid_player.specs.declared.frame.Framed.{Framed}
-use Rattle.metroid_player.proofs.Counts.{none-most, frame-counts}
-use Rattle.metroid_player.proofs.Settling.{
+use Rattle.metroid_player.proofs.frame.Counts.{none-most, frame-counts}
+use Rattle.metroid_player.proofs.frame.Settling.{
   Ahead,
   Nearer,
   Due,

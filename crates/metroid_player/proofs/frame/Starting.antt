@@ -10,8 +10,8 @@ use Rattle.metroid_format.specs.Pick.{pick}
 use Rattle.metroid_format.specs.Timeline.{timelineOf}
 use Rattle.metroid_format.specs.Header.{openTrack}
 use Rattle.metroid_format.proofs.Picks.{pick-eq, pick-ne, by-test, false-true}
-use Rattle.metroid_format.proofs.Opening.{SomeUsed, opens}
-use Rattle.metroid_format.proofs.Walked.{timeline-walk}
+use Rattle.metroid_format.proofs.header.Opening.{SomeUsed, opens}
+use Rattle.metroid_format.proofs.timeline.Walked.{timeline-walk}
 use Rattle.metroid_format.specs.declared.bank.Places.{Places}
 use Rattle.metroid_format.specs.declared.header.Voice.{Voice}
 use Rattle.metroid_format.specs.declared.header.Track.{Track}
@@ -20,9 +20,9 @@ use Rattle.metroid_player.specs.Record.{freshChannel, freshPlayer, ended
 use Rattle.metroid_player.specs.Frame.{channelSource, unplayed, frameOfTrack, frameOf}
 use Rattle.metroid_player.specs.declared.record.Player.{Player}
 use Rattle.metroid_player.specs.declared.frame.Answer.{Answer}
-use Rattle.metroid_player.proofs.Running.{Running}
-use Rattle.metroid_player.proofs.Settling.{Ahead, nothing, stop, AllRunning, all-fit}
-use Rattle.metroid_player.proofs.Framing.{InRun}
+use Rattle.metroid_player.proofs.frame.Running.{Running}
+use Rattle.metroid_player.proofs.frame.Settling.{Ahead, nothing, stop, AllRunning, all-fit}
+use Rattle.metroid_player.proofs.frame.Framing.{InRun}
 
 -- some channel has a stop ahead
 pub data SomeStop : List Ahead → Type 0 where

@@ -1,0 +1,3 @@
+pub mod ReadSteps
+pub mod Stepped
+pub mod ReadBound

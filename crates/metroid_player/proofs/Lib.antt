@@ -1,9 +1,0 @@
-pub mod Envelope
-pub mod RecordLaws
-pub mod Counts
-pub mod Running
-pub mod Settling
-pub mod Framing
-pub mod Starting
-pub mod Kept
-pub mod Foreseen
