@@ -1,7 +1,7 @@
 // A bank's bytes by offset and by address, and the places that the caller names.
 ghost use mathlib.Core.Path.{_≡_};
 ghost use lib.ListN.{getD, take, drop};
-ghost use Rattle.metroid_format.specs.Bank.{offsetOf, within, wordAt};
+ghost use Rattle.metroid_format.specs.Bank.{published, offsetOf, within, wordAt};
 
 pub const BANK_SIZE: usize = 16384;
 
@@ -30,6 +30,23 @@ pub struct Places {
     pub track_count: u32,
     pub default1: u8,
     pub default2: u8,
+}
+
+// The published addresses of the cartridge's 12 tracks, with the default ctrl 1 byte of squares 1 and 2.
+pub fn published_places(default1: u8, default2: u8) -> Places
+    ensures { λ r. ⌜ r ≡ published default1 default2 ⌝ }
+{
+    Places {
+        header_offsets: 0xbbfa,
+        header_block: 0xbd31,
+        note_lengths: 0xbef7,
+        key_periods: 0xbe77,
+        noise_presets: 0xb200,
+        envelope_addresses: 0xbcb0,
+        track_count: 12,
+        default1,
+        default2,
+    }
 }
 
 // The offset of an address in the bank.

@@ -1,0 +1,4 @@
+// Verdicts and answers as text on standard output, for the programs.
+pub mod answer;
+pub mod number;
+pub mod verdict;
