@@ -195,7 +195,7 @@ fn show_beginnings(bytes: &[u8], first: u32, end: u32) {
     );
 }
 
-pub fn triangles() {
+pub fn triangle_at_128() {
     let mut bytes = [0u8; 16384];
     put_triangle(
         &mut bytes,
@@ -206,10 +206,18 @@ pub fn triangles() {
     show_verdict(&bytes);
     show_beginnings(&bytes, 0, 42);
     show_beginnings(&bytes, 343, 406);
+}
+
+pub fn triangle_at_150() {
+    let mut bytes = [0u8; 16384];
     put_triangle(&mut bytes, 0x0b, 5, b"\xb0\x38\x3a\x00");
     show_verdict(&bytes);
     show_beginnings(&bytes, 0, 12);
-    // as printed, with C0 for B0: a begin, and no length before the note
+}
+
+// As printed, with C0 for B0: a begin, and no length before the note.
+pub fn triangle_as_printed() {
+    let mut bytes = [0u8; 16384];
     put_triangle(&mut bytes, 0x0b, 5, b"\xc0\x38\x3a\x00");
     show_verdict(&bytes);
 }

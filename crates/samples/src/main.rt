@@ -9,7 +9,9 @@ fn main() {
     straight::lists();
     examples::header();
     examples::tempos();
-    examples::triangles();
+    examples::triangle_at_128();
+    examples::triangle_at_150();
+    examples::triangle_as_printed();
     examples::envelopes();
     examples::loops();
 }
