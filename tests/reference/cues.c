@@ -3,7 +3,7 @@
 
 #include <inttypes.h>
 
-static void print_verdict(FILE *out, uint32_t track, const ref_verdict *v)
+void ref_print_verdict(FILE *out, uint32_t track, const ref_verdict *v)
 {
     fprintf(out, "%" PRIu32, track);
     if (v->number == 0)
@@ -24,6 +24,6 @@ void ref_print_cues(FILE *out, const uint8_t *bytes, size_t len)
     }
     for (uint32_t track = 0; track < places.track_count; track++) {
         ref_verdict v = ref_check_by_frames(bytes, len, &places, track);
-        print_verdict(out, track, &v);
+        ref_print_verdict(out, track, &v);
     }
 }

@@ -130,6 +130,8 @@ ref_verdict ref_check_by_frames(const uint8_t *bank, size_t len, const ref_place
 /* By each used channel's walk: the least frame, then the first channel. */
 ref_verdict ref_check_by_channels(const uint8_t *bank, size_t len, const ref_places *places, uint32_t track);
 
+/* The line of a track. */
+void ref_print_verdict(FILE *out, uint32_t track, const ref_verdict *v);
 /* What cuecheck prints for this input. */
 void ref_print_cues(FILE *out, const uint8_t *bytes, size_t len);
 
