@@ -1,9 +1,10 @@
 -- The check: the least stop of the used channels, by frame and then by channel.
-use Prim.Native.Nat.{ℕ, _+_}
+use Prim.Native.Nat.{ℕ, _+_, _≤_, _<_}
 use mathlib.Core.List.{List, [], _∷_}
 use lib.Dec.{leb, eqb}
 use Rattle.metroid_format.specs.Pick.{pick}
 use Rattle.metroid_format.specs.Number.{Told, no-channel}
+use Rattle.metroid_format.specs.Command.{data-limit}
 use Rattle.metroid_format.specs.Header.{openTrack}
 use Rattle.metroid_format.specs.Timeline.{timelineOf}
 use Rattle.metroid_format.specs.declared.bank.Places.{Places}
@@ -50,3 +51,9 @@ abbrev pub toldVerdict : Verdict → Told
 toldVerdict (Verdict.Pass frame channel) = record { number = 0; values = frame ∷ channel ∷ [] }
 toldVerdict (Verdict.Refused number) = record { number = number; values = [] }
 toldVerdict (Verdict.Fault number channel at frame) = record { number = number; values = channel ∷ at ∷ frame ∷ [] }
+
+-- a verdict's place is one of four channels, and an offset in its data or at its end (proofs/verdict/Place.antt)
+abbrev pub Placed : Verdict → Type 0
+Placed (Verdict.Pass frame channel) = channel < 4
+Placed (Verdict.Refused number) = Unit {0}
+Placed (Verdict.Fault number channel at frame) = (channel < 4) × (at ≤ data-limit)

@@ -1,3 +1,4 @@
 pub mod Walked
 pub mod PassBound
 pub mod PassLoop
+pub mod Offsets

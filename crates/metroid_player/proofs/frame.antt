@@ -6,3 +6,4 @@ pub mod Framing
 pub mod Starting
 pub mod Kept
 pub mod Foreseen
+pub mod Place

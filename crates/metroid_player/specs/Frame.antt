@@ -1,5 +1,5 @@
 -- Document 01, 'A frame': the frame rule, and start.
-use Prim.Native.Nat.{ℕ, _+_, _-_}
+use Prim.Native.Nat.{ℕ, _+_, _-_, _≤_, _<_}
 use mathlib.Core.Bool.{Bool, true, false}
 use mathlib.Core.List.{List, [], _∷_, _++_}
 use lib.Dec.{eqb}
@@ -188,3 +188,11 @@ toldFramed f = record {
 
 abbrev pub toldStarted : Started → Told
 toldStarted s = record { number = s .number; values = [] }
+
+-- a refusal's place is one of the first n channels, and an offset in its data or at its end (proofs/frame/Place.antt: n is 4)
+abbrev pub Placed : ℕ → Answer → Type 0
+Placed n Answer.Events = Unit {0}
+Placed n Answer.End = Unit {0}
+Placed n Answer.Stopped = Unit {0}
+Placed n (Answer.Refused number) = Unit {0}
+Placed n (Answer.Fault number i at) = (i < n) × (at ≤ data-limit)

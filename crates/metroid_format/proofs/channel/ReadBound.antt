@@ -115,7 +115,7 @@ module _ (source : Source) where
     placed-step (notes b after frames h w l n) p =
         record { next-within = omega arith; start-within = p .start-within; byte = p .byte; looped = p .looped }
     placed-step (ends h) p = tt
-    placed-step (refuses number at) p = tt
+    placed-step (refuses number at h) p = tt
 
     placed-after : {cursor : Cursor} {step : Step} → stepOf source cursor ≡ step → Placed limit extra cursor → PlacedBy limit extra step
     placed-after {cursor} e p = placed-step (rw e at (stepped source cursor)) p

@@ -1,5 +1,5 @@
 -- What a command can do to a cursor: the cases of `playedAt` and `stepOf`, with what holds in each.
-use Prim.Native.Nat.{ℕ, _+_, _-_, _/_, _%_, _≤_, _<_}
+use Prim.Native.Nat.{ℕ, _+_, _-_, _/_, _%_, _≤_, _<_, max}
 use mathlib.Core.Bool.{true}
 use mathlib.Core.List.{List}
 use mathlib.Core.Path.{_≡_, refl}
@@ -10,7 +10,7 @@ use lib.ListN.{length, getD}
 use Rattle.metroid_format.specs.Command.{isNote, commandAt}
 use Rattle.metroid_format.specs.Channel.{Source, lengthFault, lengthAt, counterOf, playedOf, playedBy, playedAt, stepBy, stepOf}
 use Rattle.metroid_format.proofs.Picks.{by-test}
-use Rattle.metroid_format.proofs.command.Laws.{Stands, is-end, is-end-loop, is-begin, is-length, is-note, found}
+use Rattle.metroid_format.proofs.command.Laws.{Stands, is-end, is-end-loop, is-begin, is-length, is-note, found, refused-near}
 use Rattle.metroid_format.specs.declared.command.Command.{Command}
 use Rattle.metroid_format.specs.declared.command.Decoded.{Decoded}
 use Rattle.metroid_format.specs.declared.channel.Frames.{Frames}
@@ -34,7 +34,8 @@ length-above lengths window b e =
     omega arith) λ t _.
     absurd (eqb-false _ _ t e)
 
--- a note is longer than 0 frames, and a key, rest or preset of the channel; what is not refused stands in the data
+-- a note is longer than 0 frames, and a key, rest or preset of the channel; what is not refused stands in the data, and a refusal
+-- names the command's offset, or one in the data or at its end
 pub data Plays (source : Source) (at : ℕ) (current : Frames) : Played → Type 0 where
   end : at < length (source .bytes) → Plays source at current Played.End
   end-loop : at < length (source .bytes) → getD (source .bytes) at 0 ≡ 0xff → Plays source at current (Played.EndLoop (at + 1))
@@ -44,14 +45,14 @@ pub data Plays (source : Source) (at : ℕ) (current : Frames) : Played → Type
       Plays source at current (Played.Length b (record { count = getD (source .lengths) entry 0 }) (at + 1 + 1))
   lone : (b : ℕ) → at < length (source .bytes) → 0 < current .count → isNote (source .kind) b ≡ true →
       Plays source at current (Played.Note b (at + 1))
-  refused : (number place : ℕ) → Plays source at current (Played.Refused number place)
+  refused : (number place : ℕ) → place ≤ max at (length (source .bytes)) → Plays source at current (Played.Refused number place)
 
 pub plays : (source : Source) (at : ℕ) (current : Frames) → Plays source at current (playedAt source at current)
 unfolding playedAt
 plays source at current =
     by-test (Plays source at current) (eqb (lengthFault (source .lengths) (source .window) b) 0)
     (λ z. from (commandAt (source .kind) (source .bytes) at) refl (eqb-true _ _ z)) λ _.
-    refused _ at
+    refused _ at (omega arith)
   where
     b : ℕ
     b = getD (source .bytes) at 0
@@ -65,14 +66,14 @@ plays source at current =
         let r : b % 16 ≡ l = omega arith in
         rw (← r) (long note _ h (length-above (source .lengths) (source .window) b (omega arith) z) y)
     stand (is-note note p s y h e) z =
-        by-test (Plays source at current) (eqb (current .count) 0) (λ _. refused _ at) λ t.
+        by-test (Plays source at current) (eqb (current .count) 0) (λ _. refused _ at (omega arith)) λ t.
         let above : current .count ≡ 0 → ⊥ = eqb-false _ _ t in
         lone note h (omega arith) y
 
     from : (d : Decoded) → commandAt (source .kind) (source .bytes) at ≡ d → lengthFault (source .lengths) (source .window) b ≡ 0 →
         Plays source at current (playedBy (playedOf (source .lengths) (source .window) at current) d)
     from (Decoded.Found c next) e z = stand (found (source .kind) (source .bytes) at e) z
-    from (Decoded.Refused number place) e z = refused number place
+    from (Decoded.Refused number place) e z = refused number place (refused-near (source .kind) (source .bytes) at e)
 
 pub data Stepped (source : Source) (cursor : Cursor) : Step → Type 0 where
   begins : (counter : ℕ) → cursor .next < length (source .bytes) → (getD (source .bytes) (cursor .next) 0 ≡ 0xff → ⊥) → counter ≤ 255 →
@@ -89,7 +90,7 @@ pub data Stepped (source : Source) (cursor : Cursor) : Step → Type 0 where
       Stepped source cursor
       (Step.Note b (record { next = after; «loop_start» = cursor .«loop_start»; counter = cursor .counter; length = frames }))
   ends : cursor .next < length (source .bytes) → Stepped source cursor Step.End
-  refuses : (number at : ℕ) → Stepped source cursor (Step.Refused number at)
+  refuses : (number at : ℕ) → at ≤ max (cursor .next) (length (source .bytes)) → Stepped source cursor (Step.Refused number at)
 
 pub stepped : (source : Source) (cursor : Cursor) → Stepped source cursor (stepOf source cursor)
 unfolding stepOf
@@ -105,4 +106,4 @@ stepped source cursor = from _ (plays source (cursor .next) (cursor .length))
     from _ (begin-loop counter h e m) = begins counter h e m
     from _ (long b entry h l n) = notes b (cursor .next + 1 + 1) _ (omega arith) (omega arith) l n
     from _ (lone b h l n) = notes b (cursor .next + 1) (cursor .length) (omega arith) (omega arith) l n
-    from _ (refused number place) = refuses number place
+    from _ (refused number place h) = refuses number place h

@@ -1,5 +1,5 @@
 -- What stands where a command is found, and the other way round.
-use Prim.Native.Nat.{ℕ, _+_, _/_, _%_, _≤_, _<_, _^_}
+use Prim.Native.Nat.{ℕ, _+_, _/_, _%_, _≤_, _<_, _^_, max}
 use mathlib.Core.Bool.{true}
 use mathlib.Core.List.{List}
 use mathlib.Core.Path.{_≡_, refl, sym, subst, _∙_}
@@ -24,9 +24,10 @@ pub data Stands (kind : Kind) (bytes : List ℕ) (at : ℕ) : Command → ℕ �
   is-length : (l note : ℕ) → l < 16 → isNote kind note ≡ true → at + 1 < length bytes → getD bytes at 0 ≡ 0xb0 + l → getD bytes (at + 1) 0 ≡ note → Stands kind bytes at (Length l note) (at + 1 + 1)
   is-note : (b : ℕ) → 0 < b → b < 0x80 → isNote kind b ≡ true → at < length bytes → getD bytes at 0 ≡ b → Stands kind bytes at (Note b) (at + 1)
 
+-- and a refusal names the offset, or one in the data or at its end
 abbrev Right : Kind → List ℕ → ℕ → Decoded → Type 0
 Right kind bytes at (Found c next) = Stands kind bytes at c next
-Right kind bytes at (Refused number offset) = Unit {0}
+Right kind bytes at (Refused number offset) = offset ≤ max at (length bytes)
 
 pub note-small : (kind : Kind) (b : ℕ) → isNote kind b ≡ true → b < 0x80
 unfolding isKey isPreset
@@ -63,15 +64,15 @@ module _ (kind : Kind) (bytes : List ℕ) (at : ℕ) where
   after-right : at < length bytes → getD bytes at 0 / 16 ≡ 0x0b → Right kind bytes at (noteAfter kind bytes (at + 1) (getD bytes at 0 % 16))
   unfolding noteAfter
   after-right h q =
-      by-test (Right kind bytes at) (leb (length bytes) (at + 1)) (λ _. tt)
+      by-test (Right kind bytes at) (leb (length bytes) (at + 1)) (λ _. omega arith)
       (λ n. by-test (Right kind bytes at) (isNote kind (getD bytes (at + 1) 0))
       (λ y. is-length (getD bytes at 0 % 16) (getD bytes (at + 1) 0) (omega arith) y (leb-false _ _ n) (omega arith) refl)
-      (λ _. tt))
+      (λ _. omega arith))
 
   command-right : Right kind bytes at (commandAt kind bytes at)
   unfolding commandAt commandOf
   command-right =
-      by-test (Right kind bytes at) (leb (length bytes) at) (λ _. tt)
+      by-test (Right kind bytes at) (leb (length bytes) at) (λ _. omega arith)
       (λ n. let h = leb-false (length bytes) at n in
       by-test (Right kind bytes at) (eqb (getD bytes at 0) 0x00) (λ e. is-end h (eqb-true _ _ e))
       (λ e0. let z = eqb-false (getD bytes at 0) 0x00 e0 in
@@ -80,14 +81,17 @@ module _ (kind : Kind) (bytes : List ℕ) (at : ℕ) where
       by-test (Right kind bytes at) (eqb (getD bytes at 0 / 64) 3)
       (λ e. let q = eqb-true (getD bytes at 0 / 64) 3 e in is-begin (getD bytes at 0 % 64) (omega arith) h (omega arith))
       (λ e2. by-test (Right kind bytes at) (eqb (getD bytes at 0 / 16) 0x0b) (λ e. after-right h (eqb-true _ _ e))
-      (λ e3. by-test (Right kind bytes at) (leb 0x80 (getD bytes at 0)) (λ _. tt)
+      (λ e3. by-test (Right kind bytes at) (leb 0x80 (getD bytes at 0)) (λ _. omega arith)
       (λ e4. let s = leb-false 0x80 (getD bytes at 0) e4 in
       by-test (Right kind bytes at) (isNote kind (getD bytes at 0))
       (λ y. is-note (getD bytes at 0) (omega arith) s y h refl)
-      (λ _. tt)))))))
+      (λ _. omega arith)))))))
 
   pub found : {c : Command} {next : ℕ} → commandAt kind bytes at ≡ Found c next → Stands kind bytes at c next
   found e = subst (Right kind bytes at) e command-right
+
+  pub refused-near : {number offset : ℕ} → commandAt kind bytes at ≡ Refused number offset → offset ≤ max at (length bytes)
+  refused-near e = subst (Right kind bytes at) e command-right
 
   pub stands : {c : Command} {next : ℕ} → Stands kind bytes at c next → commandAt kind bytes at ≡ Found c next
   unfolding commandAt commandOf noteAfter

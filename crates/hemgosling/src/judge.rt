@@ -1,0 +1,60 @@
+// The check, for a host.
+use crate::buffer;
+use crate::places;
+use metroid_check::verdict;
+use metroid_check::verdict::Verdict;
+ghost use mathlib.Core.Path.{_≡_};
+ghost use lib.Seq.{sets};
+ghost use Rattle.metroid_check.specs.Verdict.{verdictOf, toldVerdict};
+ghost use Rattle.metroid_check.specs.Place.{Placed};
+ghost use Rattle.hemgosling.specs.Places.{placesOf};
+
+// The number, and the values into the buffer as far as they fit.
+fn tell(verdict: Verdict, out: &mut [u32]) -> u32
+    requires { ⌜ Placed verdict ⌝ }
+    ensures { λ r. ⌜ (r ≡ toldVerdict verdict .number) × (now (out .exit) ≡ sets (now (out .entry)) 0 (toldVerdict verdict .values)) ⌝ }
+{
+    match verdict {
+        Verdict::Pass(frame, channel) => {
+            buffer::fill(out, 0, &[frame, channel as u32]);
+            0
+        }
+        Verdict::Refused(number) => number,
+        Verdict::Fault(number, channel, at, frame) => {
+            buffer::fill(out, 0, &[channel as u32, at as u32, frame]);
+            number
+        }
+    }
+}
+
+#[no_mangle]
+pub extern "C" fn hem_check(
+    bank: &[u8],
+    header_offsets: u32,
+    header_block: u32,
+    note_lengths: u32,
+    key_periods: u32,
+    noise_presets: u32,
+    envelope_addresses: u32,
+    track_count: u32,
+    track: u32,
+    default1: u8,
+    default2: u8,
+    verdict: &mut [u32],
+) -> u32
+    ensures { λ r. ⌜ (r ≡ toldVerdict (verdictOf (now (bank .entry)) (placesOf «header_offsets» «header_block» «note_lengths» «key_periods» «noise_presets» «envelope_addresses» «track_count» default1 default2) track) .number)
+        × (now (verdict .exit) ≡ sets (now (verdict .entry)) 0 (toldVerdict (verdictOf (now (bank .entry)) (placesOf «header_offsets» «header_block» «note_lengths» «key_periods» «noise_presets» «envelope_addresses» «track_count» default1 default2) track) .values)) ⌝ }
+{
+    let found = places::places_of(
+        header_offsets,
+        header_block,
+        note_lengths,
+        key_periods,
+        noise_presets,
+        envelope_addresses,
+        track_count,
+        default1,
+        default2,
+    );
+    tell(verdict::check(bank, found, track), verdict)
+}

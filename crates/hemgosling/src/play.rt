@@ -1,0 +1,284 @@
+// Start and frame, for a host that lends its one record.
+use crate::buffer;
+use crate::places;
+use metroid_player::event::Event;
+use metroid_player::event::Sound;
+use metroid_player::frame::Answer;
+use metroid_player::frame::Framed;
+use metroid_player::frame::Started;
+use metroid_player::record::Player;
+use metroid_player::release::Release;
+ghost use mathlib.Core.Path.{_≡_};
+ghost use mathlib.Core.Bool.{true};
+ghost use mathlib.Core.List.{_∷_};
+ghost use lib.Seq.{sets};
+ghost use lib.ListN.{length};
+ghost use Prim.Native.Nat.{_+_, _<_, _^_};
+ghost use Rattle.metroid_format.specs.Pick.{pick};
+ghost use Rattle.metroid_player.specs.Release.{toldRelease};
+ghost use Rattle.metroid_player.specs.Event.{toldEvent};
+ghost use Rattle.metroid_player.specs.Frame.{startOf, frameOf, answerNumber, answerKind, answerPlace, toldEvents, toldFramed};
+ghost use Rattle.metroid_player.specs.Place.{Placed};
+ghost use Rattle.hemgosling.specs.Places.{placesOf};
+ghost use Rattle.hemgosling.specs.Play.{steppedOf};
+
+// Never, where a release is told as a number.
+const NEVER: u32 = 255;
+
+// Where the words of the first channel stand in an answer.
+const EVENTS: usize = 7;
+
+// The words of a channel.
+const EVENT_WORDS: usize = 5;
+
+// A frame's number, and the next record.
+pub struct Stepped {
+    pub number: u32,
+    pub player: Player,
+}
+
+fn release_word(release: Release) -> u32
+    ensures { λ r. ⌜ r ≡ toldRelease release ⌝ }
+{
+    match release {
+        Release::After(quarters) => quarters.count as u32,
+        Release::Never => NEVER,
+    }
+}
+
+fn flag(b: bool) -> u32
+    ensures { λ r. ⌜ r ≡ pick b 1 0 ⌝ }
+{
+    if b { 1 } else { 0 }
+}
+
+// 0 off, 1 rest, 2 note; whether it began; then three values.
+fn event_words(event: Event) -> [u32; 5]
+    ensures { λ r. ⌜ r ≡ toldEvent event ⌝ }
+{
+    let sound = event.sound;
+    let began = flag(event.began);
+    match sound {
+        Sound::Off => [0, 0, 0, 0, 0],
+        Sound::SquareRest(ctrl1) => [1, began, 0, 0, ctrl1 as u32],
+        Sound::TriangleRest(release) => {
+            let after = release_word(release);
+            [1, began, 0, 0, after]
+        }
+        Sound::NoiseRest => [1, began, 0, 0, 0],
+        Sound::Square(key, period, ctrl1) => [2, began, key as u32, period as u32, ctrl1 as u32],
+        Sound::Triangle(key, period, release) => {
+            let after = release_word(release);
+            [2, began, key as u32, period as u32, after]
+        }
+        Sound::Noise(first, second, third) => {
+            [2, began, first as u32, second as u32, third as u32]
+        }
+    }
+}
+
+fn number_of(answer: Answer) -> u32
+    ensures { λ r. ⌜ r ≡ answerNumber answer ⌝ }
+{
+    match answer {
+        Answer::Events => 0,
+        Answer::End => 0,
+        Answer::Stopped => 0,
+        Answer::Refused(number) => number,
+        Answer::Fault(number, _, _) => number,
+    }
+}
+
+fn kind_of(answer: Answer) -> u32
+    ensures { λ r. ⌜ r ≡ answerKind answer ⌝ }
+{
+    match answer {
+        Answer::Events => 0,
+        Answer::End => 1,
+        Answer::Stopped => 2,
+        Answer::Refused(_) => 3,
+        Answer::Fault(_, _, _) => 3,
+    }
+}
+
+fn place_of(answer: Answer) -> [u32; 2]
+    requires { ⌜ Placed 4 answer ⌝ }
+    ensures { λ r. ⌜ r ≡ answerPlace answer ⌝ }
+{
+    match answer {
+        Answer::Events => [0, 0],
+        Answer::End => [0, 0],
+        Answer::Stopped => [0, 0],
+        Answer::Refused(_) => [0, 0],
+        Answer::Fault(_, channel, at) => [channel as u32, at as u32],
+    }
+}
+
+// The channels' words, in order.
+fn put_events(out: &mut [u32], events: [Event; 4])
+    ensures { λ _. ⌜ now (out .exit) ≡ sets (now (out .entry)) 7 (toldEvents events) ⌝ }
+{
+    let mut i: usize = 0;
+    while i < 4 {
+        let event = events[i];
+        buffer::fill(out, EVENTS + EVENT_WORDS * i, &event_words(event));
+        i += 1;
+    }
+}
+
+// The kind of the answer, the commands read, the place and the events.
+fn put_answer(out: &mut [u32], framed: Framed)
+    requires { ⌜ Placed 4 (framed .answer) ⌝ }
+    ensures { λ _. ⌜ now (out .exit) ≡ sets (now (out .entry)) 0 (toldFramed framed .values) ⌝ }
+{
+    let answer = framed.answer;
+    let counts = framed.counts;
+    let events = framed.events;
+    buffer::fill(out, 0, &[kind_of(answer)]);
+    buffer::fill(out, 1, &counts);
+    buffer::fill(out, 5, &place_of(answer));
+    put_events(out, events);
+}
+
+// The frame of a record by value, its answer into the buffer as far as it fits.
+fn frame_into(
+    player: Player,
+    bank: &[u8],
+    header_offsets: u32,
+    header_block: u32,
+    note_lengths: u32,
+    key_periods: u32,
+    noise_presets: u32,
+    envelope_addresses: u32,
+    track_count: u32,
+    track: u32,
+    default1: u8,
+    default2: u8,
+    answer: &mut [u32],
+) -> Stepped
+    ensures { λ r. ⌜ (r ≡ steppedOf (frameOf (now (bank .entry)) (placesOf «header_offsets» «header_block» «note_lengths» «key_periods» «noise_presets» «envelope_addresses» «track_count» default1 default2) track player))
+        × (now (answer .exit) ≡ sets (now (answer .entry)) 0 (toldFramed (frameOf (now (bank .entry)) (placesOf «header_offsets» «header_block» «note_lengths» «key_periods» «noise_presets» «envelope_addresses» «track_count» default1 default2) track player) .values)) ⌝ }
+{
+    let found = places::places_of(
+        header_offsets,
+        header_block,
+        note_lengths,
+        key_periods,
+        noise_presets,
+        envelope_addresses,
+        track_count,
+        default1,
+        default2,
+    );
+    let framed = player.frame(bank, found, track);
+    put_answer(answer, framed);
+    let next = framed.player;
+    let number = number_of(framed.answer);
+    Stepped {
+        number,
+        player: next,
+    }
+}
+
+fn started_of(
+    bank: &[u8],
+    header_offsets: u32,
+    header_block: u32,
+    note_lengths: u32,
+    key_periods: u32,
+    noise_presets: u32,
+    envelope_addresses: u32,
+    track_count: u32,
+    track: u32,
+    default1: u8,
+    default2: u8,
+) -> Started
+    ensures { λ r. ⌜ r ≡ startOf (now (bank .entry)) (placesOf «header_offsets» «header_block» «note_lengths» «key_periods» «noise_presets» «envelope_addresses» «track_count» default1 default2) track ⌝ }
+{
+    let found = places::places_of(
+        header_offsets,
+        header_block,
+        note_lengths,
+        key_periods,
+        noise_presets,
+        envelope_addresses,
+        track_count,
+        default1,
+        default2,
+    );
+    Player::start(bank, found, track)
+}
+
+#[no_mangle]
+pub extern "C" fn hem_start(
+    player: &mut Player,
+    bank: &[u8],
+    header_offsets: u32,
+    header_block: u32,
+    note_lengths: u32,
+    key_periods: u32,
+    noise_presets: u32,
+    envelope_addresses: u32,
+    track_count: u32,
+    track: u32,
+    default1: u8,
+    default2: u8,
+) -> u32
+    ensures { λ r. ⌜ (r ≡ startOf (now (bank .entry)) (placesOf «header_offsets» «header_block» «note_lengths» «key_periods» «noise_presets» «envelope_addresses» «track_count» default1 default2) track .number)
+        × (now (player .exit) ≡ startOf (now (bank .entry)) (placesOf «header_offsets» «header_block» «note_lengths» «key_periods» «noise_presets» «envelope_addresses» «track_count» default1 default2) track .player) ⌝ }
+{
+    let started = started_of(
+        bank,
+        header_offsets,
+        header_block,
+        note_lengths,
+        key_periods,
+        noise_presets,
+        envelope_addresses,
+        track_count,
+        track,
+        default1,
+        default2,
+    );
+    *player = started.player;
+    started.number
+}
+
+#[no_mangle]
+pub extern "C" fn hem_frame(
+    player: &mut Player,
+    bank: &[u8],
+    header_offsets: u32,
+    header_block: u32,
+    note_lengths: u32,
+    key_periods: u32,
+    noise_presets: u32,
+    envelope_addresses: u32,
+    track_count: u32,
+    track: u32,
+    default1: u8,
+    default2: u8,
+    answer: &mut [u32],
+) -> u32
+    ensures { λ r. ⌜ (r ≡ steppedOf (frameOf (now (bank .entry)) (placesOf «header_offsets» «header_block» «note_lengths» «key_periods» «noise_presets» «envelope_addresses» «track_count» default1 default2) track (now (player .entry))) .number)
+        × (now (player .exit) ≡ steppedOf (frameOf (now (bank .entry)) (placesOf «header_offsets» «header_block» «note_lengths» «key_periods» «noise_presets» «envelope_addresses» «track_count» default1 default2) track (now (player .entry))) .player)
+        × (now (answer .exit) ≡ sets (now (answer .entry)) 0 (toldFramed (frameOf (now (bank .entry)) (placesOf «header_offsets» «header_block» «note_lengths» «key_periods» «noise_presets» «envelope_addresses» «track_count» default1 default2) track (now (player .entry))) .values)) ⌝ }
+{
+    let stepped = frame_into(
+        *player,
+        bank,
+        header_offsets,
+        header_block,
+        note_lengths,
+        key_periods,
+        noise_presets,
+        envelope_addresses,
+        track_count,
+        track,
+        default1,
+        default2,
+        answer,
+    );
+    *player = stepped.player;
+    stepped.number
+}

@@ -1,0 +1,97 @@
+-- A refused frame names one of the four channels and an offset in its data or at its end.
+use Prim.Native.Nat.{ℕ, _+_, _≤_, _<_}
+use mathlib.Core.Bool.{true}
+use mathlib.Core.List.{List, [], _∷_}
+use mathlib.Core.Path.{_≡_, refl}
+use native.Mathlib.Omega.{arith}
+use borrow.Author.Tests.{eqb-true}
+use lib.Dec.{eqb}
+use lib.ListN.{length}
+use Rattle.metroid_format.specs.Command.{data-limit}
+use Rattle.metroid_format.specs.Channel.{readUntil}
+use Rattle.metroid_format.specs.Header.{openTrack}
+use Rattle.metroid_format.proofs.Picks.{by-test, false-true}
+use Rattle.metroid_format.proofs.header.Opening.{opens}
+use Rattle.metroid_format.proofs.timeline.Offsets.{StopWithin, until-within}
+use Rattle.metroid_format.specs.declared.bank.Places.{Places}
+use Rattle.metroid_format.specs.declared.header.Voice.{Voice}
+use Rattle.metroid_format.specs.declared.header.Track.{Track}
+use Rattle.metroid_format.specs.declared.channel.Cursor.{Cursor}
+use Rattle.metroid_format.specs.declared.channel.Stop.{Stop}
+use Rattle.metroid_player.specs.Record.{cursorOf, channelFits, channelsFit}
+use Rattle.metroid_player.specs.Frame.{channelSource, turnBy, turnOf, Settled, settleBy, settleFrom, framedBy, frameOfTrack, frameOf, Placed}
+use Rattle.metroid_player.specs.declared.record.Channel.{Channel}
+use Rattle.metroid_player.specs.declared.record.Player.{Player}
+use Rattle.metroid_player.specs.declared.frame.Turned.{Turned}
+use Rattle.metroid_player.specs.declared.frame.Turn.{Turn}
+use Rattle.metroid_player.specs.declared.frame.Answer.{Answer}
+use Rattle.metroid_player.specs.declared.frame.Framed.{Framed}
+use Rattle.metroid_player.proofs.frame.Counts.{source-within}
+use Rattle.metroid_player.proofs.frame.Laws.{next-fits, start-fits}
+
+abbrev TurnWithin : Turned → Type 0
+TurnWithin (Turned.Plays event channel) = Unit {0}
+TurnWithin Turned.End = Unit {0}
+TurnWithin (Turned.Refused number at) = at ≤ data-limit
+
+module _ (bank : List ℕ) (track : Track) where
+  by-stop : (i : ℕ) (v : Voice) (cursor : Cursor) (count : ℕ) (stop : Stop) → StopWithin data-limit stop → TurnWithin (turnBy bank track i v cursor count stop .turned)
+  by-stop i v cursor count (Stop.Note b) h = tt
+  by-stop i v cursor count Stop.End h = tt
+  by-stop i v cursor count (Stop.Refused number at) h = h
+
+  turn-within : (i : ℕ) (v : Voice) (c : Channel) → channelFits v c ≡ true → TurnWithin (turnOf bank track i v c .turned)
+  unfolding turnOf
+  turn-within i v c f =
+      by-test (λ (t : Turn). TurnWithin (t .turned)) (v .used)
+      (λ u.
+      by-test (λ (t : Turn). TurnWithin (t .turned)) (eqb (c .left) 0)
+      (λ _.
+      by-stop i v _ _ (readUntil data-limit (channelSource bank track v) (cursorOf c) .stop)
+      (until-within (channelSource bank track v) data-limit (source-within bank track v) (cursorOf c) (next-fits v c u f) (start-fits v c u f))) λ _.
+      tt) λ _.
+      tt
+
+  by-turned : (n i count : ℕ) (turned : Turned) (rest : Settled) → i < n → TurnWithin turned → Placed n (rest .answer) →
+      Placed n (settleBy i count turned rest .answer)
+  by-turned n i count (Turned.Plays event channel) rest h t b = b
+  by-turned n i count Turned.End rest h t b = tt
+  by-turned n i count (Turned.Refused number at) rest h t b = (h, t)
+
+  settle-placed : (n i : ℕ) (vs : List Voice) (cs : List Channel) → n ≡ i + length vs → channelsFit vs cs ≡ true →
+      Placed n (settleFrom bank track i vs cs .answer)
+  unfolding settleFrom
+  settle-placed n i [] cs e f = tt
+  settle-placed n i (v ∷ vs) [] e f = tt
+  settle-placed n i (v ∷ vs) (c ∷ cs) e f =
+      by-test (λ b. b ≡ true → Placed n (settleFrom bank track i (v ∷ vs) (c ∷ cs) .answer)) (channelFits v c)
+      (λ h rest.
+      by-turned n i _ (turnOf bank track i v c .turned) _ (omega arith) (turn-within i v c h)
+      (settle-placed n (i + 1) vs cs (omega arith) rest))
+      (λ _ z. absurd (false-true z)) f
+
+  framed-placed : (player : Player) (s : Settled) (answer : Answer) → Placed 4 answer → Placed 4 (framedBy track player s answer .answer)
+  framed-placed player s Answer.Events b = tt
+  framed-placed player s Answer.End b = tt
+  framed-placed player s Answer.Stopped b = tt
+  framed-placed player s (Answer.Refused number) b = tt
+  framed-placed player s (Answer.Fault number i at) b = b
+
+  track-placed : (player : Player) → length (track .voices) ≡ 4 → Placed 4 (frameOfTrack bank track player .answer)
+  unfolding frameOfTrack
+  track-placed player four =
+      by-test (λ (f : Framed). Placed 4 (f .answer)) (channelsFit (track .voices) (player .channels))
+      (λ f.
+      by-test (λ (f : Framed). Placed 4 (f .answer)) (eqb (player .stopped) 0)
+      (λ _.
+      let s = settleFrom bank track 0 (track .voices) (player .channels) in
+      framed-placed player s (s .answer) (settle-placed 4 0 (track .voices) (player .channels) (omega arith) f)) λ _.
+      tt) λ _.
+      tt
+
+pub frame-placed : (bank : List ℕ) (places : Places) (track : ℕ) (player : Player) → Placed 4 (frameOf bank places track player .answer)
+unfolding frameOf
+frame-placed bank places track player =
+    by-test (λ (f : Framed). Placed 4 (f .answer)) (eqb (openTrack bank places track .number) 0)
+    (λ e. track-placed bank (openTrack bank places track .track) player (opens bank places track (eqb-true _ _ e) .four)) λ _.
+    tt
