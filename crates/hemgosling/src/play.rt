@@ -4,16 +4,12 @@ use crate::places;
 use metroid_player::event::Event;
 use metroid_player::event::Sound;
 use metroid_player::frame::Answer;
-use metroid_player::frame::Framed;
 use metroid_player::frame::Started;
 use metroid_player::record::Player;
 use metroid_player::release::Release;
 ghost use mathlib.Core.Path.{_≡_};
-ghost use mathlib.Core.Bool.{true};
-ghost use mathlib.Core.List.{_∷_};
+ghost use mathlib.Core.List.{_∷_, _++_};
 ghost use lib.Seq.{sets};
-ghost use lib.ListN.{length};
-ghost use Prim.Native.Nat.{_+_, _<_, _^_};
 ghost use Rattle.metroid_format.specs.Pick.{pick};
 ghost use Rattle.metroid_player.specs.Release.{toldRelease};
 ghost use Rattle.metroid_player.specs.Event.{toldEvent};
@@ -127,13 +123,10 @@ fn put_events(out: &mut [u32], events: [Event; 4])
 }
 
 // The kind of the answer, the commands read, the place and the events.
-fn put_answer(out: &mut [u32], framed: Framed)
-    requires { ⌜ Placed 4 (framed .answer) ⌝ }
-    ensures { λ _. ⌜ now (out .exit) ≡ sets (now (out .entry)) 0 (toldFramed framed .values) ⌝ }
+fn put_answer(out: &mut [u32], answer: Answer, counts: [u32; 4], events: [Event; 4])
+    requires { ⌜ Placed 4 answer ⌝ }
+    ensures { λ _. ⌜ now (out .exit) ≡ sets (now (out .entry)) 0 (answerKind answer ∷ counts ++ (answerPlace answer ++ toldEvents events)) ⌝ }
 {
-    let answer = framed.answer;
-    let counts = framed.counts;
-    let events = framed.events;
     buffer::fill(out, 0, &[kind_of(answer)]);
     buffer::fill(out, 1, &counts);
     buffer::fill(out, 5, &place_of(answer));
@@ -171,9 +164,12 @@ fn frame_into(
         default2,
     );
     let framed = player.frame(bank, found, track);
-    put_answer(answer, framed);
+    let told = framed.answer;
+    let counts = framed.counts;
+    let events = framed.events;
     let next = framed.player;
-    let number = number_of(framed.answer);
+    let number = number_of(told);
+    put_answer(answer, told, counts, events);
     Stepped {
         number,
         player: next,

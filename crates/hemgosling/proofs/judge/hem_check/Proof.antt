@@ -1,0 +1,16 @@
+use borrow.Author.Needs.{needs}
+use Rattle.metroid_check.proofs.Place.{verdict-placed}
+use Rattle.hemgosling.proofs.judge.hem_check.Statement.{statement}
+use Rattle.hemgosling.proofs.judge.hem_check.Tie as tie
+
+pub hem-check-spec : {M : Type 1} → statement M
+hem-check-spec =
+    tie.close
+    (tie.spec
+    (λ c κs. search needs)
+    (λ c κs. search needs)
+    (λ c κs. rw (c .before .check .ensures .same) (verdict-placed _ _ _))
+    (λ c. search needs)
+    (λ c.
+    let f = c .before .before .before .before in
+    rw (← f .before .places-of .ensures, ← f .check .ensures .same) (c .before .before .tell .ensures)))

@@ -1,0 +1,92 @@
+-- The values of an answer are words of 32 bits, and stand one behind the other.
+use Prim.Native.Nat.{ℕ, suc, _+_, _*_, _≤_, _<_}
+use mathlib.Core.List.{List, [], _∷_, _++_}
+use mathlib.Core.Path.{_≡_, refl, sym, subst, ap, _∙_}
+use native.Mathlib.Numerals.{add-one}
+use native.Mathlib.Omega.{arith}
+use mir.Syntax.{w32}
+use mir.Val.{Fits}
+use lib.ListN.{length, getD, drop, drop-of-length-le}
+use lib.Seq.{sets, length-sets, drop-cons}
+use Rattle.metroid_format.specs.Command.{data-limit}
+use Rattle.metroid_format.proofs.Buffers.{sets-append}
+use Rattle.metroid_player.specs.Event.{toldEvent}
+use Rattle.metroid_player.specs.Frame.{answerKind, answerPlace, toldEvents}
+use Rattle.metroid_player.specs.Place.{Placed}
+use Rattle.metroid_player.specs.declared.event.Event.{Event}
+use Rattle.metroid_player.specs.declared.event.Sound.{Sound}
+use Rattle.metroid_player.specs.declared.frame.Answer.{Answer}
+
+module _ (a : Answer) (number channel at : ℕ) (e : a ≡ Answer.Fault number channel at) (p : Placed 4 a) where
+  placed : (channel < 4) × (at ≤ data-limit)
+  placed = subst (Placed 4) e p
+
+  pub fault-channel : Fits w32 channel
+  fault-channel = record { fits = omega (arith, placed .0) }
+
+  pub fault-offset : Fits w32 at
+  fault-offset = record { fits = omega (arith, placed .1) }
+
+two : (a : Answer) → length (answerPlace a) ≡ 2
+two Answer.Events = refl
+two Answer.End = refl
+two Answer.Stopped = refl
+two (Answer.Refused number) = refl
+two (Answer.Fault number channel at) = refl
+
+-- the kind, four counts, two words of place, then the events
+pub answer-put : (a : Answer) (counts : List ℕ) (events : List Event) (before : List ℕ) (kind : ℕ) → kind ≡ answerKind a → (one : List ℕ) → one ≡ sets before 0 (kind ∷ []) →
+    (next : List ℕ) → next ≡ sets one 1 counts → (place : List ℕ) → place ≡ answerPlace a →
+    (third : List ℕ) → third ≡ sets next 5 place → (last : List ℕ) → last ≡ sets third 7 (toldEvents events) →
+    length counts ≡ 4 → last ≡ sets before 0 (answerKind a ∷ counts ++ (answerPlace a ++ toldEvents events))
+answer-put a counts events before kind k one o next n place p third t last l four =
+    let first = sets before 0 (answerKind a ∷ []) in
+    let five : 1 + length counts ≡ 5 = omega arith in
+    let seven : 5 + length (answerPlace a) ≡ 7 = omega (arith, two a) in
+    let behind-counts = rw five at (sets-append first 1 counts (answerPlace a ++ toldEvents events)) in
+    let behind-place = rw seven at (sets-append (sets first 1 counts) 5 (answerPlace a) (toldEvents events)) in
+    rw (l, t, p, n, o, k) (sym (behind-counts ∙ behind-place))
+
+-- five words a channel
+five : (e : Event) → length (toldEvent e) ≡ 5
+five e = by (e .sound) refl
+  where
+    by : (s : Sound) → e .sound ≡ s → length (toldEvent e) ≡ 5
+    by Sound.Off h = rw h
+    by (Sound.SquareRest ctrl1) h = rw h
+    by (Sound.TriangleRest release) h = rw h
+    by Sound.NoiseRest h = rw h
+    by (Sound.Square key period ctrl1) h = rw h
+    by (Sound.Triangle key period release) h = rw h
+    by (Sound.Noise first second third) h = rw h
+
+-- with the words of i channels written, the rest is still to come
+pub record Putting (before : List ℕ) (events : List Event) (now : List ℕ) (i : ℕ) : Type 0 where
+  pub within : i ≤ 4
+  pub four : length events ≡ 4
+  pub same : sets before 7 (toldEvents events) ≡ sets now (7 + 5 * i) (toldEvents (drop i events))
+  pub size : length now ≡ length before
+
+module _ (before : List ℕ) (events : List Event) (now : List ℕ) (i : ℕ) (p : Putting before events now i) where
+  -- words are what `event_words` gives of the channel
+  pub putting-more : i < 4 → (d : Event) (words : List ℕ) → words ≡ toldEvent (getD events i d) → (next : List ℕ) → next ≡ sets now (7 + 5 * i) words →
+      Putting before events next (i + 1)
+  putting-more h d words w next e =
+      let v : i < length events = omega (arith, p .four) in
+      let n : 7 + 5 * i + length words ≡ 7 + 5 * (i + 1) = omega (arith, ap length w, five (getD events i d)) in
+      record {
+        within = omega arith;
+        four = p .four;
+        same =
+            p .same
+            ∙ ap (λ es. sets now (7 + 5 * i) (toldEvents es)) (drop-cons events i d v)
+            ∙ ap (λ ws. sets now (7 + 5 * i) (ws ++ toldEvents (drop (suc i) events))) (sym w)
+            ∙ sets-append now (7 + 5 * i) words (toldEvents (drop (suc i) events))
+            ∙ rw (e, ← n, add-one i);
+        size = rw e (length-sets now (7 + 5 * i) words ∙ p .size);
+      }
+
+  pub all-put : 4 ≤ i → now ≡ sets before 7 (toldEvents events)
+  all-put h =
+      let v : length events ≤ i = omega (arith, p .four) in
+      rw (p .same, drop-of-length-le events {i = i} v)

@@ -1,0 +1,18 @@
+use borrow.Author.Needs.{needs}
+use Rattle.metroid_player.proofs.Place.{frame-placed}
+use Rattle.hemgosling.proofs.play.frame_into.Statement.{statement}
+use Rattle.hemgosling.proofs.play.frame_into.Tie as tie
+
+pub frame-into-spec : {M : Type 1} → statement M
+frame-into-spec =
+    tie.close
+    (tie.spec
+    (λ c κs. search needs)
+    (λ c κs. search needs)
+    (λ c κs. search needs)
+    (λ c κs. rw (c .before .before .before .before .before .frame .ensures .same) (frame-placed _ _ _ _))
+    (λ c. search needs)
+    (λ c.
+    let f = c .before .before .before .before .before .before .before .before in
+    rw (← f .before .places-of .ensures, ← f .frame .ensures .same)
+    (rw (c .before .before .before .before .number-of .ensures), c .before .before .put-answer .ensures)))

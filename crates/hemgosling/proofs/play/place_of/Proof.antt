@@ -1,0 +1,21 @@
+use borrow.Author.Needs.{needs}
+use Rattle.hemgosling.proofs.play.Laws.{fault-channel, fault-offset}
+use Rattle.hemgosling.proofs.play.place_of.Statement.{statement}
+use Rattle.hemgosling.proofs.play.place_of.Tie as tie
+
+pub place-of-spec : {M : Type 1} → statement M
+place-of-spec =
+    tie.close
+    (tie.spec
+    (λ c. search needs)
+    (λ c. search needs)
+    (λ c. search needs)
+    (λ c. search needs)
+    (λ c. search needs)
+    (λ c. fault-channel _ _ _ _ (c .before .answer .given .1) (c .before .before .before .pre))
+    (λ c. fault-offset _ _ _ _ (c .before .answer .given .1) (c .before .before .before .pre))
+    (λ c. search needs)
+    (λ c. search needs)
+    (λ c. search needs)
+    (λ c. search needs)
+    (λ c. rw (c .before .answer .given .1)))
