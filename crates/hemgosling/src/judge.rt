@@ -5,9 +5,9 @@ use metroid_check::verdict;
 use metroid_check::verdict::Verdict;
 ghost use mathlib.Core.Path.{_≡_};
 ghost use lib.Seq.{sets};
-ghost use Rattle.metroid_check.specs.Verdict.{verdictOf, toldVerdict};
-ghost use Rattle.metroid_check.specs.Place.{Placed};
+ghost use Rattle.metroid_check.specs.Verdict.{toldVerdict, Placed};
 ghost use Rattle.hemgosling.specs.Places.{placesOf};
+ghost use Rattle.hemgosling.specs.Judge.{Judges};
 
 // The number, and the values into the buffer as far as they fit.
 fn tell(verdict: Verdict, out: &mut [u32]) -> u32
@@ -42,8 +42,9 @@ pub extern "C" fn hem_check(
     default2: u8,
     verdict: &mut [u32],
 ) -> u32
-    ensures { λ r. ⌜ (r ≡ toldVerdict (verdictOf (now (bank .entry)) (placesOf «header_offsets» «header_block» «note_lengths» «key_periods» «noise_presets» «envelope_addresses» «track_count» default1 default2) track) .number)
-        × (now (verdict .exit) ≡ sets (now (verdict .entry)) 0 (toldVerdict (verdictOf (now (bank .entry)) (placesOf «header_offsets» «header_block» «note_lengths» «key_periods» «noise_presets» «envelope_addresses» «track_count» default1 default2) track) .values)) ⌝ }
+    ensures { λ r. ⌜ Judges (now (bank .entry))
+        (placesOf «header_offsets» «header_block» «note_lengths» «key_periods» «noise_presets» «envelope_addresses» «track_count» default1 default2)
+        track (now (verdict .entry)) r (now (verdict .exit)) ⌝ }
 {
     let found = places::places_of(
         header_offsets,

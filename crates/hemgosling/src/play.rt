@@ -13,8 +13,7 @@ ghost use lib.Seq.{sets};
 ghost use Rattle.metroid_format.specs.Pick.{pick};
 ghost use Rattle.metroid_player.specs.Release.{toldRelease};
 ghost use Rattle.metroid_player.specs.Event.{toldEvent};
-ghost use Rattle.metroid_player.specs.Frame.{startOf, frameOf, answerNumber, answerKind, answerPlace, toldEvents, toldFramed};
-ghost use Rattle.metroid_player.specs.Place.{Placed};
+ghost use Rattle.metroid_player.specs.Frame.{startOf, frameOf, answerNumber, answerKind, answerPlace, toldEvents, toldFramed, Placed};
 ghost use Rattle.hemgosling.specs.Places.{placesOf};
 ghost use Rattle.hemgosling.specs.Play.{steppedOf};
 

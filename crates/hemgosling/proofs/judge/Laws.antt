@@ -1,12 +1,17 @@
--- The values of a verdict are words of 32 bits.
+-- A verdict told to a host: its values are words of 32 bits.
 use Prim.Native.Nat.{ℕ, _≤_, _<_}
+use mathlib.Core.List.{List}
 use mathlib.Core.Path.{_≡_, subst}
 use native.Mathlib.Omega.{arith}
 use mir.Syntax.{w32}
 use mir.Val.{Fits}
+use lib.Seq.{sets}
 use Rattle.metroid_format.specs.Command.{data-limit}
-use Rattle.metroid_check.specs.Place.{Placed}
+use Rattle.metroid_format.specs.declared.bank.Places.{Places}
+use Rattle.metroid_check.specs.Verdict.{verdictOf, toldVerdict, Placed}
+use Rattle.metroid_check.specs.Demand3.{Foreseen}
 use Rattle.metroid_check.specs.declared.verdict.Verdict.{Verdict}
+use Rattle.hemgosling.specs.Judge.{Judges}
 
 pub pass-channel : (v : Verdict) (frame channel : ℕ) → v ≡ Verdict.Pass frame channel → Placed v → Fits w32 channel
 pass-channel v frame channel e p =
@@ -22,3 +27,9 @@ module _ (v : Verdict) (number channel at frame : ℕ) (e : v ≡ Verdict.Fault 
 
   pub fault-offset : Fits w32 at
   fault-offset = record { fits = omega (arith, placed .1) }
+
+pub judges : (bank : List ℕ) (places : Places) (track : ℕ) (before : List ℕ) (number : ℕ) (after : List ℕ) (v : Verdict) →
+    Foreseen bank places track v → number ≡ toldVerdict v .number → after ≡ sets before 0 (toldVerdict v .values) →
+    Judges bank places track before number after
+judges bank places track before number after v f n b =
+    record { told = rw (f .answer .same) at n; buffer = rw (f .answer .same) at b; runs = rw (f .answer .same) at (f .runs) }

@@ -11,8 +11,7 @@ use lib.Seq.{sets, length-sets, drop-cons}
 use Rattle.metroid_format.specs.Command.{data-limit}
 use Rattle.metroid_format.proofs.Buffers.{sets-append}
 use Rattle.metroid_player.specs.Event.{toldEvent}
-use Rattle.metroid_player.specs.Frame.{answerKind, answerPlace, toldEvents}
-use Rattle.metroid_player.specs.Place.{Placed}
+use Rattle.metroid_player.specs.Frame.{answerKind, answerPlace, toldEvents, Placed}
 use Rattle.metroid_player.specs.declared.event.Event.{Event}
 use Rattle.metroid_player.specs.declared.event.Sound.{Sound}
 use Rattle.metroid_player.specs.declared.frame.Answer.{Answer}

@@ -1,5 +1,6 @@
 use borrow.Author.Needs.{needs}
-use Rattle.metroid_check.proofs.Place.{verdict-placed}
+use Rattle.metroid_check.proofs.verdict.Place.{verdict-placed}
+use Rattle.hemgosling.proofs.judge.Laws.{judges}
 use Rattle.hemgosling.proofs.judge.hem_check.Statement.{statement}
 use Rattle.hemgosling.proofs.judge.hem_check.Tie as tie
 
@@ -9,8 +10,9 @@ hem-check-spec =
     (tie.spec
     (λ c κs. search needs)
     (λ c κs. search needs)
-    (λ c κs. rw (c .before .check .ensures .same) (verdict-placed _ _ _))
+    (λ c κs. rw (c .before .check .ensures .answer .same) (verdict-placed _ _ _))
     (λ c. search needs)
     (λ c.
     let f = c .before .before .before .before in
-    rw (← f .before .places-of .ensures, ← f .check .ensures .same) (c .before .before .tell .ensures)))
+    let t = c .before .before .tell .ensures in
+    rw (← f .before .places-of .ensures) (judges _ _ _ _ _ _ _ (f .check .ensures) (t .0) (t .1))))

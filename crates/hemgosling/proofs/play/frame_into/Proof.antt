@@ -1,5 +1,5 @@
 use borrow.Author.Needs.{needs}
-use Rattle.metroid_player.proofs.Place.{frame-placed}
+use Rattle.metroid_player.proofs.frame.Place.{frame-placed}
 use Rattle.hemgosling.proofs.play.frame_into.Statement.{statement}
 use Rattle.hemgosling.proofs.play.frame_into.Tie as tie
 
