@@ -1,23 +1,18 @@
 // Reads a bank and prints the verdict of each track, with the published places.
 use metroid_check::verdict;
+use metroid_check::verdict::Verdict;
 use metroid_format::bank;
-use metroid_text;
 
-fn check_track(bytes: &[u8], track: u32) {
-    let places = bank::published_places(0, 0);
-    metroid_text::verdict::print(verdict::check(bytes, places, track));
-}
+const TRACKS: u32 = 12;
 
-fn print_line(bytes: &[u8], track: u32) {
-    io::print_decimal(1, track as u64);
-    io::write_all(1, b" ");
-    check_track(bytes, track);
+fn verdict_of(bytes: &[u8], track: u32) -> Verdict {
+    verdict::check(bytes, bank::published_places(0, 0), track)
 }
 
 fn print_lines(bytes: &[u8]) {
     let mut track: u32 = 0;
-    while track < 12 {
-        print_line(bytes, track);
+    while track < TRACKS {
+        metroid_text::verdict::print_line(track, verdict_of(bytes, track));
         track += 1;
     }
 }
@@ -30,6 +25,6 @@ fn main() {
         print_lines(&bytes[..n]);
     } else {
         // no track of an input of another length is looked at
-        check_track(&bytes[..n], 0);
+        metroid_text::verdict::print(verdict_of(&bytes[..n], 0));
     }
 }

@@ -30,3 +30,10 @@ pub fn print(verdict: Verdict) {
     }
     io::write_all(1, b"\n");
 }
+
+// The line of a track.
+pub fn print_line(track: u32, verdict: Verdict) {
+    io::print_decimal(1, track as u64);
+    io::write_all(1, b" ");
+    print(verdict);
+}

@@ -10,7 +10,6 @@ use metroid_player::event::Event;
 use metroid_player::event::Sound;
 use metroid_player::frame::Framed;
 use metroid_player::record::Player;
-use metroid_text;
 use metroid_text::answer;
 use metroid_text::number;
 

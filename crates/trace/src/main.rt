@@ -4,7 +4,6 @@ use metroid_check::verdict;
 use metroid_format::bank;
 use metroid_format::bank::Places;
 use metroid_player::record::Player;
-use metroid_text;
 use metroid_text::answer;
 use metroid_text::number;
 
@@ -23,15 +22,9 @@ fn show_frames(bytes: &[u8], places: Places, track: u32, start: Player) {
     }
 }
 
-fn show_verdict(bytes: &[u8], places: Places, track: u32) {
-    io::print_decimal(1, track as u64);
-    io::write_all(1, b" ");
-    metroid_text::verdict::print(verdict::check(bytes, places, track));
-}
-
 fn show_track(bytes: &[u8], track: u32) {
     let places = bank::published_places(0xb3, 0);
-    show_verdict(bytes, places, track);
+    metroid_text::verdict::print_line(track, verdict::check(bytes, places, track));
     let started = Player::start(bytes, places, track);
     io::write_all(1, b"start");
     number::print(started.number as u64);

@@ -18,6 +18,7 @@ print-lines-spec =
     μ-loop
     (λ c. omega arith)
     (λ c κs. search needs)
+    (λ c κs. search needs)
     (λ c. omega arith)
     (λ c. omega arith)
     (λ c. omega arith)
