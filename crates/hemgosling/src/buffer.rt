@@ -13,7 +13,7 @@ fn put(out: &mut [u32], at: usize, value: u32)
 }
 
 // Writes the values from an index on.
-pub fn fill(out: &mut [u32], at: usize, values: &[u32])
+pub(crate) fn fill(out: &mut [u32], at: usize, values: &[u32])
     requires { ⌜ at + length (now values) < 2 ^ 64 ⌝ }
     ensures { λ _. ⌜ now (out .exit) ≡ sets (now (out .entry)) at (now (values .entry)) ⌝ }
 {

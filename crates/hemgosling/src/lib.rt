@@ -1,5 +1,5 @@
 // What a host written in C links: the calls that include/hemgosling.h declares.
-pub mod buffer;
+mod buffer;
 pub mod judge;
-pub mod places;
+mod places;
 pub mod play;
