@@ -1,3 +1,4 @@
 pub mod Places
 pub mod Judge
 pub mod Play
+pub mod Words

@@ -3,3 +3,4 @@ mod buffer;
 pub mod judge;
 mod places;
 pub mod play;
+pub mod words;

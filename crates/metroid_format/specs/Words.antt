@@ -1,5 +1,5 @@
 -- Document 01, 'Commands as words'.
-use Prim.Native.Nat.{ℕ, zero, suc, _/_, _%_}
+use Prim.Native.Nat.{ℕ, zero, suc, _/_, _%_, _≤_}
 use mathlib.Core.Bool.{Bool, true, false}
 use mathlib.Core.List.{List, [], _∷_, _++_}
 use mathlib.Core.Path.{_≡_}
@@ -71,6 +71,12 @@ toldReading (Wrote count) = record { number = 0; values = count ∷ [] }
 toldReading (Unread number at) = record { number = number; values = at ∷ [] }
 toldReading NoRoom = record { number = no-room; values = [] }
 
+-- a count or an offset is within a limit
+abbrev pub ReadWithin : ℕ → Reading → Type 0
+ReadWithin limit (Wrote count) = count ≤ limit
+ReadWithin limit (Unread number at) = at ≤ limit
+ReadWithin limit NoRoom = Unit {0}
+
 pub record Reads (limit : ℕ) (kind : Kind) (bytes before : List ℕ) (answer : Reading) (after : List ℕ) : Type 0 where
   pub answered : Answers toldReading answer (readWords limit kind bytes (length before))
   pub buffer : after ≡ wordsLeft limit kind bytes before
@@ -140,6 +146,11 @@ abbrev pub toldWriting : Writing → Told
 toldWriting (Put count) = record { number = 0; values = count ∷ [] }
 toldWriting InvalidWord = record { number = invalid-word; values = [] }
 toldWriting NoSpace = record { number = no-room; values = [] }
+
+abbrev pub WroteWithin : ℕ → Writing → Type 0
+WroteWithin limit (Put count) = count ≤ limit
+WroteWithin limit InvalidWord = Unit {0}
+WroteWithin limit NoSpace = Unit {0}
 
 pub record Writes (limit : ℕ) (kind : Kind) (words before : List ℕ) (answer : Writing) (after : List ℕ) : Type 0 where
   pub answered : Answers toldWriting answer (writeWords limit kind words (length before))

@@ -16,6 +16,8 @@ ghost use Rattle.metroid_format.specs.Words.{straight, Decodes, Reads};
 
 pub const INVALID_WORD: u32 = 17;
 
+pub const NO_ROOM: u32 = 18;
+
 pub enum Reading {
     // how many words were written
     Wrote(usize),

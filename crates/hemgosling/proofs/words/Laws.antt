@@ -1,0 +1,47 @@
+-- Reading and writing told to a host: counts and offsets are words of 32 bits.
+use Prim.Native.Nat.{ℕ, _≤_}
+use mathlib.Core.List.{List}
+use mathlib.Core.Path.{_≡_, sym, subst}
+use native.Mathlib.Omega.{arith}
+use mir.Syntax.{w32}
+use mir.Val.{Fits}
+use lib.ListN.{length}
+use lib.Seq.{sets}
+use Rattle.metroid_format.specs.Command.{data-limit}
+use Rattle.metroid_format.specs.Words.{toldReading, ReadWithin, Reads, toldWriting, WroteWithin, Writes}
+use Rattle.metroid_format.specs.declared.command.Kind.{Kind}
+use Rattle.metroid_format.specs.declared.words.Reading.{Reading}
+use Rattle.metroid_format.specs.declared.words.Writing.{Writing}
+use Rattle.metroid_format.proofs.words.Within.{read-within, wrote-within}
+use Rattle.hemgosling.specs.Words.{kindOf, ReadsInto, WritesInto}
+
+small : {n : ℕ} → n ≤ data-limit → Fits w32 n
+small h = record { fits = omega arith }
+
+pub read-count : (r : Reading) (count : ℕ) → r ≡ Reading.Wrote count → ReadWithin data-limit r → Fits w32 count
+read-count r count e w = small (subst (ReadWithin data-limit) e w)
+
+pub read-offset : (r : Reading) (number at : ℕ) → r ≡ Reading.Refused number at → ReadWithin data-limit r → Fits w32 at
+read-offset r number at e w = small (subst (ReadWithin data-limit) e w)
+
+pub wrote-count : (r : Writing) (count : ℕ) → r ≡ Writing.Wrote count → WroteWithin data-limit r → Fits w32 count
+wrote-count r count e w = small (subst (WroteWithin data-limit) e w)
+
+module _ (noise : ℕ) (kind : Kind) (k : kind ≡ kindOf noise) where
+  module _ (bytes words words′ : List ℕ) (r : Reading) (a : Reads data-limit kind bytes words r words′) where
+    pub reading-within : ReadWithin data-limit r
+    reading-within = rw (a .answered .same) (read-within data-limit kind bytes (length words))
+
+    pub reads-into : (told told′ : List ℕ) (number : ℕ) → (number ≡ toldReading r .number) × (told′ ≡ sets told 0 (toldReading r .values))
+        → ReadsInto (kindOf noise) bytes words told number words′ told′
+    reads-into told told′ number t =
+        rw (← k) (record { says = rw (a .answered .same) at (t .0); buffer = a .buffer; tells = rw (a .answered .same) at (t .1) })
+
+  module _ (words bytes bytes′ : List ℕ) (r : Writing) (a : Writes data-limit kind words bytes r bytes′) where
+    pub writing-within : WroteWithin data-limit r
+    writing-within = rw (a .answered .same) (wrote-within data-limit kind words (length bytes))
+
+    pub writes-into : (told told′ : List ℕ) (number : ℕ) → (number ≡ toldWriting r .number) × (told′ ≡ sets told 0 (toldWriting r .values))
+        → WritesInto (kindOf noise) words bytes told number bytes′ told′
+    writes-into told told′ number t =
+        rw (← k) (record { says = rw (a .answered .same) at (t .0); buffer = a .buffer; tells = rw (a .answered .same) at (t .1) })

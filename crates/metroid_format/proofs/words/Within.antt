@@ -1,0 +1,70 @@
+-- The counts and offsets of reading and writing stay within the limit.
+use Prim.Native.Nat.{ℕ, zero, suc, _≤_}
+use mathlib.Core.Bool.{Bool, true, false}
+use mathlib.Core.List.{List}
+use mathlib.Core.Path.{_≡_, refl}
+use native.Mathlib.Omega.{arith}
+use borrow.Author.Tests.{leb-true}
+use lib.Dec.{leb}
+use lib.ListN.{length, take, length-take}
+use Rattle.metroid_format.specs.Command.{commandAt, wordOf, isEnd}
+use Rattle.metroid_format.specs.Words.{Straight, straight, straightFrom, straightBy, afterCommand, finished, readWords, ReadWithin, encoded, writeWords, WroteWithin}
+use Rattle.metroid_format.specs.declared.command.Kind.{Kind}
+use Rattle.metroid_format.specs.declared.command.Decoded.{Decoded}
+use Rattle.metroid_format.specs.declared.command.Decoded.the-variants.{Found, Refused}
+use Rattle.metroid_format.specs.declared.command.Finish.{Finish}
+use Rattle.metroid_format.specs.declared.command.Finish.the-variants.{End as Ended, Refused as Faulty}
+use Rattle.metroid_format.proofs.Picks.{by-test}
+use Rattle.metroid_format.proofs.command.Laws.{found, refused-near, next-within}
+
+abbrev FinishWithin : ℕ → Finish → Type 0
+FinishWithin limit Ended = Unit {0}
+FinishWithin limit (Faulty number at) = at ≤ limit
+
+module _ (kind : Kind) (bytes : List ℕ) where
+  -- at most so many words, and a refusal within the data
+  record Short (left : ℕ) (s : Straight) : Type 0 where
+    words-few : length (s .words) ≤ left
+    finish-near : FinishWithin (length bytes) (s .finish)
+
+  module _ (at left : ℕ) (h : at ≤ length bytes) (go : ℕ → Straight) (rest : (next : ℕ) → next ≤ length bytes → Short left (go next)) where
+    short-after : (b : Bool) (w next : ℕ) → next ≤ length bytes → Short (suc left) (afterCommand b w (go next))
+    short-after true w next n = record { words-few = omega arith; finish-near = tt }
+    short-after false w next n =
+        let r = rest next n in
+        record { words-few = omega (arith, r .words-few); finish-near = r .finish-near }
+
+    short-by : (d : Decoded) → commandAt kind bytes at ≡ d → Short (suc left) (straightBy go d)
+    short-by (Found c next) e = short-after (isEnd c) (wordOf c) next (next-within (found kind bytes at e))
+    short-by (Refused number offset) e =
+        let r = refused-near kind bytes at e in
+        record { words-few = omega arith; finish-near = omega arith }
+
+  short : (left at : ℕ) → at ≤ length bytes → Short left (straightFrom kind bytes left at)
+  unfolding straightFrom
+  short zero at h = record { words-few = omega arith; finish-near = h }
+  short (suc left) at h = short-by at left h (λ next. straightFrom kind bytes left next) (λ next n. short left next n) (commandAt kind bytes at) refl
+
+finished-within : (limit n m : ℕ) (f : Finish) → n ≤ limit → m ≤ limit → FinishWithin m f → ReadWithin limit (finished n f)
+finished-within limit n m Ended h g w = h
+finished-within limit n m (Faulty number at) h g w = omega arith
+
+pub read-within : (limit : ℕ) (kind : Kind) (bytes : List ℕ) (room : ℕ) → ReadWithin limit (readWords limit kind bytes room)
+unfolding readWords
+read-within limit kind bytes room =
+    let part = take limit bytes in
+    let l : length part ≤ limit = omega (arith, length-take limit bytes) in
+    let s = short kind part (length part) 0 (omega arith) in
+    by-test (ReadWithin limit) (leb (length (straight kind part .words)) room)
+    (λ _. finished-within limit (length (straight kind part .words)) (length part) (straight kind part .finish) (omega (arith, s .words-few)) l (s .finish-near))
+    (λ _. tt)
+
+pub wrote-within : (limit : ℕ) (kind : Kind) (words : List ℕ) (room : ℕ) → WroteWithin limit (writeWords limit kind words room)
+unfolding writeWords
+wrote-within limit kind words room =
+    let n = length (encoded kind words .bytes) in
+    by-test (WroteWithin limit) (encoded kind words .valid)
+    (λ _. by-test (WroteWithin limit) (leb n room)
+    (λ _. by-test (WroteWithin limit) (leb n limit) (λ l. leb-true n limit l) (λ _. tt))
+    (λ _. tt))
+    (λ _. tt)

@@ -1,0 +1,228 @@
+/* Hemgosling: tracks in the music format of the NES game Metroid.
+
+   The library judges a track of a music bank (where it ends, or where and why it cannot be played) and plays it frame
+   by frame, 60 frames a second. It reads the bank that you lend it, writes only into the record and buffers that you
+   lend it, allocates nothing, keeps nothing between calls and makes no sound itself: you get keys, periods and register
+   bytes. Every call answers every input, damaged banks and records too, and is proved to do what is said here; it
+   never crashes, never runs forever, and never reads or writes outside of what was lent.
+
+   Link with target/staticlib/libhemgosling.a (x86-64 Linux). A complete program stands in README.md. */
+#ifndef HEMGOSLING_H
+#define HEMGOSLING_H
+
+#include <stddef.h>
+#include <stdint.h>
+
+#ifdef __cplusplus
+extern "C" {
+#endif
+
+/* What you owe
+
+   - A pointer points to as many elements as the length after it says (a player pointer: to one record), is aligned for
+     its type and is not NULL, even where the length is 0.
+   - What is written (record, verdict, answer, told, the output of the words calls) overlaps nothing else that is lent
+     in the same call: not the bank, not another buffer.
+   - Nobody else reads or writes the record and the buffers, or writes the bank, during a call. Any number of calls with
+     records and buffers of their own may run at the same time on one bank.
+   - For a verdict of hem_check to hold of playing: bank bytes and all arguments from bank to default2 are the same in
+     the check, in hem_start and in every hem_frame, and only hem_start and hem_frame write the record.
+
+   Nothing else is asked. Numbers of any size are tested and never cut to a smaller one. */
+
+/* The bank and the places in it
+
+   A bank is 16,384 bytes and stands for the addresses 0x8000 to 0xbfff. Bank b of an iNES file starts at its byte
+   16 + 16384 * b. All calls on a track take the same arguments, in this order:
+
+     bank, bank_len       the bank's bytes; only read
+     header_offsets       address of a byte a track: where in the header block the track's header stands
+     header_block         address that these bytes are added to
+     note_lengths         address of 40 bytes: lengths in frames
+     key_periods          address of 64 words, high byte first: periods of the keys
+     noise_presets        address of 13 bytes: the presets, from offset 1
+     envelope_addresses   address of 5 words, low byte first: where the envelopes stand
+     track_count          how many tracks the bank has, 1 to 255
+     track                the track's number, from 0
+     default1, default2   ctrl 1 bytes (duty and volume, for $4000 and $4004) of squares 1 and 2 that the game keeps in
+                          code; 0 if you don't know them */
+#define HEM_BANK_SIZE 16384u
+
+#define HEM_PUBLISHED_HEADER_OFFSETS 0xBBFAu
+#define HEM_PUBLISHED_HEADER_BLOCK 0xBD31u
+#define HEM_PUBLISHED_NOTE_LENGTHS 0xBEF7u
+#define HEM_PUBLISHED_KEY_PERIODS 0xBE77u
+#define HEM_PUBLISHED_NOISE_PRESETS 0xB200u
+#define HEM_PUBLISHED_ENVELOPE_ADDRESSES 0xBCB0u
+#define HEM_PUBLISHED_TRACK_COUNT 12u
+/* Metroid's own, as seven arguments: header_offsets to track_count. */
+#define HEM_PUBLISHED_PLACES                                                                                           \
+    HEM_PUBLISHED_HEADER_OFFSETS, HEM_PUBLISHED_HEADER_BLOCK, HEM_PUBLISHED_NOTE_LENGTHS, HEM_PUBLISHED_KEY_PERIODS,   \
+        HEM_PUBLISHED_NOISE_PRESETS, HEM_PUBLISHED_ENVELOPE_ADDRESSES, HEM_PUBLISHED_TRACK_COUNT
+
+/* Channels, in the order in which they are played. */
+enum { HEM_SQUARE_1 = 0, HEM_SQUARE_2 = 1, HEM_TRIANGLE = 2, HEM_NOISE = 3, HEM_CHANNELS = 4 };
+
+/* A channel's data: this many bytes from its address, or to the bank's end if that is sooner. */
+#define HEM_DATA_LIMIT 256u
+
+/* Numbers of refusal
+
+   Every call returns 0 or one of these. 1 to 9 are about the arguments and the track's header, and are tested in this
+   order; 10 to 15 are faults at a byte of a channel's data, named by channel and offset from the start of its data. */
+typedef enum {
+    HEM_OK = 0,
+    HEM_BAD_BANK_SIZE = 1,       /* bank_len is not 16,384 */
+    HEM_BAD_PLACES = 2,          /* track_count outside 1 to 255, or a table (of the header block: its address) not
+                                    wholly within 0x8000 to 0xbfff */
+    HEM_BAD_TRACK = 3,           /* track is not below track_count */
+    HEM_BAD_HEADER = 4,          /* the track's 13-byte header is not wholly in the bank */
+    HEM_BAD_WINDOW = 5,          /* the header's tempo byte is above 31 */
+    HEM_BAD_ENVELOPE_NUMBER = 6, /* the header names an envelope above 5 */
+    HEM_BAD_ENVELOPE = 7,        /* a used square's envelope is outside the bank, or has no end in its 64 bytes */
+    HEM_BAD_ADDRESS = 8,         /* a channel's data is outside the bank */
+    HEM_NO_CHANNEL = 9,          /* the track uses no channel; also what an empty entry of a bank gives */
+    HEM_NO_COMMAND = 10,         /* a byte 0x80 to 0xaf where a command stands */
+    HEM_NO_SUCH_KEY = 11,        /* a byte that is no key, rest or preset of its channel */
+    HEM_LENGTH_OUTSIDE = 12,     /* a set-length command picks an entry outside the table of 40 */
+    HEM_LENGTH_ZERO = 13,        /* a set-length command picks a length of 0 frames */
+    HEM_NO_LENGTH_YET = 14,      /* a note or rest before any set-length command */
+    HEM_PAST_DATA = 15,          /* the data runs out before its end command */
+    HEM_BAD_RECORD = 16,         /* hem_frame: the record given cannot be played on from (see hem_player) */
+    HEM_BAD_WORD = 17,           /* hem_write_words: a word that is no command, or no end or a second one */
+    HEM_NO_ROOM = 18             /* the words calls: the buffer is too small, or more than 256 bytes to write */
+} hem_refusal;
+
+/* The player's record
+
+   34 bytes that hem_start fills and hem_frame steps. You may keep it, copy it and save it. hem_frame refuses one whose
+   offsets are above 256, or that has frames left above 0 with a length below them or with a sounding byte that is no
+   key, rest or preset, in a channel that the track uses; from any other record it plays on. The byte between stopped
+   and channels has no meaning. */
+typedef struct {
+    uint16_t next;       /* offset of the next command in the channel's data */
+    uint16_t loop_start; /* offset after the last begin-loop command */
+    uint8_t counter;     /* plays of the loop still to come */
+    uint8_t length;      /* current note length in frames; 0: none yet */
+    uint8_t left;        /* frames left of the sounding note or rest */
+    uint8_t sounding;    /* byte of the sounding note or rest */
+} hem_channel;
+
+typedef struct {
+    uint8_t stopped; /* any value but 0: the track has ended and does not restart */
+    hem_channel channels[HEM_CHANNELS];
+} hem_player;
+
+#ifdef __cplusplus
+static_assert(sizeof(hem_channel) == 8 && sizeof(hem_player) == 34, "the library's records have these sizes");
+#else
+_Static_assert(sizeof(hem_channel) == 8 && sizeof(hem_player) == 34, "the library's records have these sizes");
+#endif
+
+/* The verdict: what hem_check writes. Frames count from 0. */
+#define HEM_VERDICT_WORDS 3
+/* of a pass (0) */
+#define HEM_PASS_FRAME 0   /* frame of the first end: as many frames sound before it */
+#define HEM_PASS_CHANNEL 1 /* channel that meets it */
+/* of a fault (10 to 15) */
+#define HEM_FAULT_CHANNEL 0
+#define HEM_FAULT_OFFSET 1
+#define HEM_FAULT_FRAME 2
+
+/* The answer: what hem_frame writes. Words that have nothing to tell are 0. */
+#define HEM_ANSWER_WORDS 27
+#define HEM_ANSWER_KIND 0    /* HEM_EVENTS, HEM_END, HEM_STOPPED or HEM_REFUSED */
+#define HEM_ANSWER_COUNTS 1  /* four words, one a channel: commands it read in this frame, an end counted, a refused
+                                command not */
+#define HEM_ANSWER_CHANNEL 5 /* of a refusal 10 to 15: the channel */
+#define HEM_ANSWER_OFFSET 6  /* and the byte's offset in its data */
+#define HEM_ANSWER_PARTS 7   /* with HEM_EVENTS: five words a channel */
+enum { HEM_EVENTS = 0, HEM_END = 1, HEM_STOPPED = 2, HEM_REFUSED = 3 };
+
+/* A channel's part of the answer: its words are answer[HEM_ANSWER_PART(channel) + one of these]. */
+#define HEM_PART_WORDS 5
+#define HEM_PART_STATE 0   /* HEM_OFF (unused by the track), HEM_REST or HEM_NOTE */
+#define HEM_PART_BEGAN 1   /* 1: the note or rest begins in this frame */
+#define HEM_PART_KEY 2     /* squares and triangle, a note: key 0 to 63 */
+#define HEM_PART_PERIOD 3  /* squares and triangle, a note: the key's word of the period table */
+#define HEM_PART_CTRL1 4   /* squares: ctrl 1 byte for this frame; of a rest 0x10 */
+#define HEM_PART_RELEASE 4 /* triangle: a note is silenced after so many quarter-frames, or HEM_RELEASE_NEVER */
+#define HEM_PART_PRESET 2  /* noise, a note: three words, the preset's bytes for $400C, $400E and $400F */
+enum { HEM_OFF = 0, HEM_REST = 1, HEM_NOTE = 2 };
+#define HEM_RELEASE_NEVER 255
+#define HEM_ANSWER_PART(channel) (HEM_ANSWER_PARTS + HEM_PART_WORDS * (channel))
+
+/* Judges a track without playing it; the cost grows with the bytes of its channels, not with its frames.
+
+   Returns 0 if the track plays from hem_start to its first end without a refusal, and writes to verdict the frame and
+   the channel of that end. Else returns the refusal that playing meets first: 1 to 9, and verdict stays as it is; or 10
+   to 15, and it writes channel, offset and frame to verdict. Where several channels stop in one frame the first of them
+   decides. A fault that stands behind the track's end is never met and is no refusal.
+
+   The returned number never depends on verdict_len. As many of the values as fit are written; the rest of the buffer
+   stays. HEM_VERDICT_WORDS words are always enough. */
+uint32_t hem_check(const uint8_t *bank, size_t bank_len, uint32_t header_offsets, uint32_t header_block,
+                   uint32_t note_lengths, uint32_t key_periods, uint32_t noise_presets, uint32_t envelope_addresses,
+                   uint32_t track_count, uint32_t track, uint8_t default1, uint8_t default2, uint32_t *verdict,
+                   size_t verdict_len);
+
+/* Makes a fresh record, all fields 0, whatever it held. Returns 0 or the refusal, 1 to 9; the record is fresh either
+   way. The channels' data is not looked at: that is the check's work. */
+uint32_t hem_start(hem_player *player, const uint8_t *bank, size_t bank_len, uint32_t header_offsets,
+                   uint32_t header_block, uint32_t note_lengths, uint32_t key_periods, uint32_t noise_presets,
+                   uint32_t envelope_addresses, uint32_t track_count, uint32_t track, uint8_t default1,
+                   uint8_t default2);
+
+/* Plays one frame and steps the record. Tests 1 to 9, then 16, then whether the record is stopped, then plays.
+
+   Returns 0 with one of
+     HEM_EVENTS   what each channel sounds in this frame; the record is stepped
+     HEM_END      the track ends here and no channel sounds: the record is fresh, so that the next frame is the track's
+                  first one again, and marked as stopped if the header says not to restart. The channel that met the
+                  end is the last with a count above 0; channels after it were not read
+     HEM_STOPPED  the record is marked as stopped, and stays
+   or the refusal's number, 1 to 16, with HEM_REFUSED: the record stays, so asking again refuses again. For 10 to 15
+   channel and offset are told, and the commands read before the fault are counted.
+
+   The answer has HEM_ANSWER_WORDS words. The returned number and the record never depend on answer_len: as many words
+   as fit are written, and what lies behind them stays. */
+uint32_t hem_frame(hem_player *player, const uint8_t *bank, size_t bank_len, uint32_t header_offsets,
+                   uint32_t header_block, uint32_t note_lengths, uint32_t key_periods, uint32_t noise_presets,
+                   uint32_t envelope_addresses, uint32_t track_count, uint32_t track, uint8_t default1,
+                   uint8_t default2, uint32_t *answer, size_t answer_len);
+
+/* Commands as words, for tools that edit tracks: a word a command, its first byte low, the second byte of a set-length
+   command high (else 0). The commands are
+
+     00            end of the track
+     FF            end of a loop
+     C0 to FE      begin of a loop, played byte - C0 times; C0: 256 times
+     B0 to BF      set length, entry byte - B0 of the track's window; the next byte, its second, is what then sounds
+     02 to 7E      even bytes, square and triangle: key byte / 2; 02 is the rest; 00 is key 0 after set length alone
+     01 04 07 0A   noise: the rest, and the three presets
+
+   noise: 0 for the data of a square or triangle, anything else for that of the noise channel. `told` takes one value,
+   if told_len is at least 1; the rest of it stays. */
+
+/* Reads one channel's data (its first 256 bytes at most) straight through, running no loops, up to and including the
+   first end command.
+
+   Returns 0: the words are written, told = how many, and the rest of words stays. Else words stays as it is, and the
+   first command that cannot be taken decides: 10, 11 or 15, told = offset of the byte; or 18, told stays, if it is a
+   command but words_len words came before it. HEM_DATA_LIMIT words are always enough. */
+uint32_t hem_read_words(uint32_t noise, const uint8_t *bytes, size_t bytes_len, uint16_t *words, size_t words_len,
+                        uint32_t *told, size_t told_len);
+
+/* Writes a list of commands as one channel's data: the opposite of reading.
+
+   Returns 0: the bytes are written, told = how many, and the rest of bytes stays. Else bytes and told stay as they are:
+   17 if some word is none that reading gives for that kind of channel, or the end command (0) is missing, not the last
+   word or there twice; then 18 if the bytes are more than bytes_len or more than 256. */
+uint32_t hem_write_words(uint32_t noise, const uint16_t *words, size_t words_len, uint8_t *bytes, size_t bytes_len,
+                         uint32_t *told, size_t told_len);
+
+#ifdef __cplusplus
+}
+#endif
+
+#endif

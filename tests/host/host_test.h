@@ -1,0 +1,30 @@
+/* Shared by the parts of the host test. */
+#ifndef HOST_TEST_H
+#define HOST_TEST_H
+
+#include "generator.h"
+
+/* Says where and in which round something does not hold. The test then fails. */
+#define EXPECT(holds) expect((holds) != 0, #holds, __FILE__, __LINE__)
+void expect(int holds, const char *text, const char *file, int line);
+
+/* The part and round that runs now, for the messages. */
+void begin_part(const char *name);
+void begin_round(unsigned long round);
+
+/* Counts a number that the library returned. */
+void count_number(uint32_t number);
+
+/* Lent buffers are longer than what is lent; what is not to be written keeps its bytes. */
+void fill_pattern(void *buffer, size_t size);
+
+int same_record(const hem_player *a, const ref_player *b);
+ref_player as_reference(const hem_player *player);
+
+void test_layout(void);
+void test_samples(void);
+void test_check(unsigned long rounds);
+void test_player(unsigned long rounds);
+void test_words(unsigned long rounds);
+
+#endif

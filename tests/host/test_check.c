@@ -1,0 +1,47 @@
+/* The check against the independent one, and what it leaves of the lent buffer. */
+#include "host_test.h"
+
+#include <string.h>
+
+enum { ROOM = 5, LENT = 8 };
+
+/* The buffer as it should be found: the values as far as they fit, the pattern behind. */
+static void expected_verdict(const ref_verdict *v, size_t room, uint32_t buffer[LENT])
+{
+    uint32_t values[HEM_VERDICT_WORDS] = { v->channel, v->offset, (uint32_t)v->frame };
+    size_t count = v->number >= HEM_NO_COMMAND ? 3 : 0;
+    if (v->number == HEM_OK) {
+        values[HEM_PASS_FRAME] = (uint32_t)v->frame;
+        values[HEM_PASS_CHANNEL] = v->channel;
+        count = 2;
+    }
+    fill_pattern(buffer, LENT * sizeof buffer[0]);
+    for (size_t i = 0; i < count && i < room; i++)
+        buffer[i] = values[i];
+}
+
+static void compare_check(const setup *s)
+{
+    ref_verdict v = ref_check_by_channels(s->bank, s->bank_len, &s->places, s->track);
+    for (size_t room = 0; room <= ROOM; room++) {
+        uint32_t found[LENT], wanted[LENT];
+        fill_pattern(found, sizeof found);
+        expected_verdict(&v, room, wanted);
+        uint32_t number = hem_check(SETUP(s), found, room);
+        count_number(number);
+        EXPECT(number == v.number);
+        EXPECT(memcmp(found, wanted, sizeof found) == 0);
+    }
+}
+
+void test_check(unsigned long rounds)
+{
+    uint8_t *memory = fenced_memory();
+    begin_part("check");
+    for (unsigned long i = 0; i < rounds; i++) {
+        setup s;
+        begin_round(i);
+        random_setup(&s, memory);
+        compare_check(&s);
+    }
+}

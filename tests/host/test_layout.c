@@ -1,0 +1,66 @@
+/* The record as C sees it and as the library writes it. */
+#include "host_test.h"
+
+#include <stdalign.h>
+#include <string.h>
+
+static void test_offsets(void)
+{
+    EXPECT(sizeof(hem_channel) == 8 && alignof(hem_channel) == 2);
+    EXPECT(offsetof(hem_channel, next) == 0);
+    EXPECT(offsetof(hem_channel, loop_start) == 2);
+    EXPECT(offsetof(hem_channel, counter) == 4);
+    EXPECT(offsetof(hem_channel, length) == 5);
+    EXPECT(offsetof(hem_channel, left) == 6);
+    EXPECT(offsetof(hem_channel, sounding) == 7);
+    EXPECT(sizeof(hem_player) == 34 && alignof(hem_player) == 2);
+    EXPECT(offsetof(hem_player, stopped) == 0);
+    EXPECT(offsetof(hem_player, channels) == 2);
+    EXPECT(HEM_ANSWER_PART(HEM_CHANNELS) == HEM_ANSWER_WORDS);
+}
+
+/* Start clears the 33 bytes that have a meaning and nothing behind them. */
+static void test_extent(const setup *s)
+{
+    struct { uint8_t before[2]; hem_player player; uint8_t after[14]; } lent;
+    uint8_t pattern[sizeof lent.after];
+    const uint8_t zeros[sizeof lent.player.channels] = { 0 };
+    fill_pattern(&lent, sizeof lent);
+    fill_pattern(pattern, sizeof pattern);
+    EXPECT(hem_start(&lent.player, SETUP(s)) == HEM_OK);
+    EXPECT(memcmp(lent.before, pattern, sizeof lent.before) == 0);
+    EXPECT(lent.player.stopped == 0);
+    EXPECT(memcmp(lent.player.channels, zeros, sizeof zeros) == 0);
+    EXPECT(memcmp(lent.after, pattern, sizeof lent.after) == 0);
+}
+
+/* What each channel's bytes are after a first frame, worked out by hand from the data. */
+static void test_bytes(const setup *s)
+{
+    static const uint8_t after_one[32] = {
+        3, 0, 1, 0, 1, 12, 11, 0x2A, /* square 1 */
+        0, 0, 0, 0, 0, 0, 0, 0,      /* square 2, unused */
+        2, 0, 0, 0, 0, 6, 5, 0x30,   /* triangle */
+        5, 0, 3, 0, 61, 24, 23, 7    /* noise */
+    };
+    hem_player player;
+    uint32_t answer[HEM_ANSWER_WORDS];
+    EXPECT(hem_start(&player, SETUP(s)) == HEM_OK);
+    EXPECT(hem_frame(&player, SETUP(s), answer, HEM_ANSWER_WORDS) == HEM_OK);
+    EXPECT(player.stopped == 0);
+    EXPECT(memcmp(player.channels, after_one, sizeof after_one) == 0);
+}
+
+void test_layout(void)
+{
+    static uint8_t bank[HEM_BANK_SIZE];
+    setup s;
+    begin_part("layout");
+    plain_setup(&s, bank);
+    use_channel(&s, HEM_SQUARE_1, BYTES(0xC2, 0xB1, 0x2A, 0xFF, 0x00));
+    use_channel(&s, HEM_TRIANGLE, BYTES(0xB0, 0x30, 0x00));
+    use_channel(&s, HEM_NOISE, BYTES(0xC1, 0xFF, 0xFE, 0xB2, 0x07, 0x00));
+    test_offsets();
+    test_extent(&s);
+    test_bytes(&s);
+}

@@ -1,0 +1,128 @@
+/* Start and frame against the independent player, from start and from any record. */
+#include "host_test.h"
+
+#include <string.h>
+
+enum { LENT = 32, MOST_ROOM = 30, FRAMES = 60, FORESEEN_LIMIT = 400 };
+
+/* How often each kind of answer, and each state of a channel, was seen. */
+static unsigned long kinds[HEM_REFUSED + 1], states[HEM_NOTE + 1];
+
+static void count_answer(const uint32_t *answer)
+{
+    kinds[answer[HEM_ANSWER_KIND]]++;
+    for (int i = 0; i < HEM_CHANNELS; i++)
+        states[answer[HEM_ANSWER_PART(i) + HEM_PART_STATE]]++;
+}
+
+static void expect_all_seen(void)
+{
+    printf("answers: events %lu, end %lu, stopped %lu, refused %lu; rests %lu, notes %lu\n", kinds[HEM_EVENTS],
+           kinds[HEM_END], kinds[HEM_STOPPED], kinds[HEM_REFUSED], states[HEM_REST], states[HEM_NOTE]);
+    for (int i = HEM_EVENTS; i <= HEM_REFUSED; i++)
+        EXPECT(kinds[i] > 0);
+    EXPECT(states[HEM_REST] > 0 && states[HEM_NOTE] > 0);
+}
+
+static void compare_start(const setup *s, hem_player *player)
+{
+    ref_player wanted;
+    fill_pattern(player, sizeof *player);
+    uint32_t number = hem_start(player, SETUP(s));
+    count_number(number);
+    EXPECT(number == ref_start(&wanted, s->bank, s->bank_len, &s->places, s->track));
+    EXPECT(same_record(player, &wanted));
+}
+
+/* One frame: number, answer as far as it fits, what lies behind it, and the record. */
+static uint32_t compare_frame(const setup *s, hem_player *player, size_t room)
+{
+    ref_player next = as_reference(player);
+    uint32_t told[REF_ANSWER_WORDS];
+    uint32_t found[LENT], wanted[LENT];
+    size_t written = room < HEM_ANSWER_WORDS ? room : HEM_ANSWER_WORDS;
+    uint32_t wanted_number = ref_frame(&next, s->bank, s->bank_len, &s->places, s->track, told);
+    fill_pattern(found, sizeof found);
+    fill_pattern(wanted, sizeof wanted);
+    memcpy(wanted, told, written * sizeof told[0]);
+    count_answer(told);
+    uint32_t number = hem_frame(player, SETUP(s), found, room);
+    count_number(number);
+    EXPECT(number == wanted_number);
+    EXPECT(memcmp(found, wanted, sizeof found) == 0);
+    EXPECT(same_record(player, &next));
+    return number;
+}
+
+static size_t random_room(void)
+{
+    return one_in(3) ? below(MOST_ROOM + 1) : HEM_ANSWER_WORDS;
+}
+
+/* Frames from start or from a random record, which may be swapped for another on the way. */
+static void compare_run(const setup *s)
+{
+    hem_player player;
+    uint32_t frames = 1 + below(FRAMES);
+    compare_start(s, &player);
+    if (one_in(2))
+        random_record(&player);
+    for (uint32_t i = 0; i < frames; i++) {
+        uint32_t number = compare_frame(s, &player, random_room());
+        if (number != HEM_OK && one_in(2))
+            random_record(&player);
+    }
+}
+
+/* The channel read, and none after it. */
+static int met_by(const uint32_t *counts, uint32_t channel)
+{
+    int met = channel < HEM_CHANNELS && counts[channel] > 0;
+    for (uint32_t later = channel + 1; later < HEM_CHANNELS; later++)
+        met = met && counts[later] == 0;
+    return met;
+}
+
+/* What the check foresees is what a run from start shows, and nothing before it. */
+static void compare_foreseen(const setup *s)
+{
+    hem_player player;
+    uint32_t verdict[HEM_VERDICT_WORDS] = { 0 };
+    uint32_t answer[HEM_ANSWER_WORDS] = { 0 };
+    uint32_t number = hem_check(SETUP(s), verdict, HEM_VERDICT_WORDS);
+    uint32_t last = verdict[number == HEM_OK ? HEM_PASS_FRAME : HEM_FAULT_FRAME];
+    uint32_t started = hem_start(&player, SETUP(s));
+    EXPECT(started == (number < HEM_NO_COMMAND ? number : HEM_OK));
+    if (started != HEM_OK || last > FORESEEN_LIMIT)
+        return;
+    for (uint32_t i = 0; i < last; i++) {
+        EXPECT(hem_frame(&player, SETUP(s), answer, HEM_ANSWER_WORDS) == HEM_OK);
+        EXPECT(answer[HEM_ANSWER_KIND] == HEM_EVENTS);
+    }
+    EXPECT(hem_frame(&player, SETUP(s), answer, HEM_ANSWER_WORDS) == number);
+    if (number == HEM_OK) {
+        EXPECT(answer[HEM_ANSWER_KIND] == HEM_END);
+        EXPECT(met_by(answer + HEM_ANSWER_COUNTS, verdict[HEM_PASS_CHANNEL]));
+    } else {
+        EXPECT(answer[HEM_ANSWER_KIND] == HEM_REFUSED);
+        EXPECT(answer[HEM_ANSWER_CHANNEL] == verdict[HEM_FAULT_CHANNEL]);
+        EXPECT(answer[HEM_ANSWER_OFFSET] == verdict[HEM_FAULT_OFFSET]);
+    }
+}
+
+void test_player(unsigned long rounds)
+{
+    static uint8_t before[LONGEST_BANK];
+    uint8_t *memory = fenced_memory();
+    begin_part("player");
+    for (unsigned long i = 0; i < rounds; i++) {
+        setup s;
+        begin_round(i);
+        random_setup(&s, memory);
+        memcpy(before, memory, sizeof before);
+        compare_run(&s);
+        compare_foreseen(&s);
+        EXPECT(memcmp(before, memory, sizeof before) == 0);
+    }
+    expect_all_seen();
+}

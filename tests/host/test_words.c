@@ -1,0 +1,127 @@
+/* Reading and writing of words against the independent ones. */
+#include "host_test.h"
+
+#include <string.h>
+
+enum { LONGEST = 300, LENT = LONGEST + 4, TOLD = 3 };
+
+/* Room for all, or any at or below what a list of this size may need. */
+static size_t random_room(size_t size)
+{
+    return one_in(2) ? LONGEST : below((uint32_t)size + 2);
+}
+
+static void compare_reading(int noise, const uint8_t *bytes, size_t size)
+{
+    uint16_t found[LENT], wanted[LENT];
+    uint32_t told[TOLD], wanted_told[TOLD];
+    size_t count, offset;
+    ref_kind kind = noise ? REF_NOISE : REF_MELODIC;
+    size_t room = random_room(size), told_room = below(TOLD);
+    fill_pattern(found, sizeof found);
+    fill_pattern(wanted, sizeof wanted);
+    fill_pattern(told, sizeof told);
+    fill_pattern(wanted_told, sizeof wanted_told);
+    uint32_t wanted_number = ref_read_words(kind, bytes, size, wanted, room, &count, &offset);
+    if (told_room > 0 && wanted_number != HEM_NO_ROOM)
+        wanted_told[0] = (uint32_t)(wanted_number == HEM_OK ? count : offset);
+    uint32_t number = hem_read_words(noise ? 1 + below(UINT32_MAX) : 0, bytes, size, found, room, told, told_room);
+    count_number(number);
+    EXPECT(number == wanted_number);
+    EXPECT(memcmp(found, wanted, sizeof found) == 0);
+    EXPECT(memcmp(told, wanted_told, sizeof told) == 0);
+}
+
+static void compare_writing(int noise, const uint16_t *words, size_t size)
+{
+    uint8_t found[LENT], wanted[LENT];
+    uint32_t told[TOLD], wanted_told[TOLD];
+    size_t count;
+    ref_kind kind = noise ? REF_NOISE : REF_MELODIC;
+    size_t room = random_room(size), told_room = below(TOLD);
+    fill_pattern(found, sizeof found);
+    fill_pattern(wanted, sizeof wanted);
+    fill_pattern(told, sizeof told);
+    fill_pattern(wanted_told, sizeof wanted_told);
+    uint32_t wanted_number = ref_write_words(kind, words, size, wanted, room, &count);
+    if (told_room > 0 && wanted_number == HEM_OK)
+        wanted_told[0] = (uint32_t)count;
+    uint32_t number = hem_write_words(noise ? 1 + below(UINT32_MAX) : 0, words, size, found, room, told, told_room);
+    count_number(number);
+    EXPECT(number == wanted_number);
+    EXPECT(memcmp(found, wanted, sizeof found) == 0);
+    EXPECT(memcmp(told, wanted_told, sizeof told) == 0);
+}
+
+/* Random data, with an end at some place more often than not. */
+static void round_of_reading(int noise)
+{
+    uint8_t bytes[LENT];
+    size_t size = below(one_in(3) ? LONGEST + 1 : 30);
+    random_data(noise, bytes, size);
+    if (size > 0 && !one_in(3))
+        bytes[below((uint32_t)size)] = 0x00;
+    compare_reading(noise, bytes, size);
+}
+
+/* Commands without an end, then one; sometimes none, a second one, or a word that is none. */
+static void round_of_writing(int noise)
+{
+    uint16_t words[LENT];
+    size_t size = below(one_in(3) ? LONGEST + 1 : 30);
+    int may_be_wrong = one_in(2);
+    for (size_t i = 0; i < size; i++) {
+        words[i] = noise ? 0x04 : 0x2A;
+        if (one_in(3))
+            words[i] = (uint16_t)(words[i] * 256 + 0xB0 + below(16));
+        if (may_be_wrong && one_in(8))
+            words[i] = random_command(noise);
+        if (may_be_wrong && one_in(60))
+            words[i] = (uint16_t)below(0x10000);
+    }
+    if (size > 0 && !one_in(10))
+        words[size - 1] = 0;
+    compare_writing(noise, words, size);
+}
+
+/* One-byte commands up to an end that stands beside the limit; then a set-length command near it. */
+static void round_at_the_limit(int noise)
+{
+    uint8_t bytes[LENT];
+    uint16_t words[LENT];
+    size_t size = HEM_DATA_LIMIT - 2 + below(5);
+    memset(bytes, noise ? 0x04 : 0x2A, size);
+    bytes[size - 1] = 0x00;
+    for (size_t i = 0; i < size; i++)
+        words[i] = bytes[i];
+    compare_reading(noise, bytes, size);
+    compare_writing(noise, words, size);
+    bytes[size - 1 - below(3)] = 0xB0;
+    compare_reading(noise, bytes, size);
+}
+
+/* What was read, written again, is the same data. */
+static void round_trip(int noise)
+{
+    uint8_t bytes[HEM_DATA_LIMIT], back[HEM_DATA_LIMIT];
+    uint16_t words[HEM_DATA_LIMIT];
+    uint32_t count = 0, written = 0;
+    random_data(noise, bytes, sizeof bytes);
+    if (hem_read_words((uint32_t)noise, bytes, sizeof bytes, words, HEM_DATA_LIMIT, &count, 1) != HEM_OK)
+        return;
+    EXPECT(hem_write_words((uint32_t)noise, words, count, back, sizeof back, &written, 1) == HEM_OK);
+    EXPECT(written >= count && written <= sizeof back && memcmp(bytes, back, written) == 0);
+}
+
+void test_words(unsigned long rounds)
+{
+    begin_part("words");
+    for (unsigned long i = 0; i < rounds; i++) {
+        begin_round(i);
+        int noise = (int)below(2);
+        round_of_reading(noise);
+        round_of_writing(noise);
+        round_at_the_limit(noise);
+        round_trip(noise);
+    }
+}
