@@ -10,7 +10,6 @@ use Rattle.metroid_format.specs.Header.{envelope-reach}
 use Rattle.metroid_format.specs.declared.command.Kind.{Kind}
 use Rattle.metroid_format.specs.declared.command.Kind.the-variants.{Melodic, Noise as NoiseKind}
 use Rattle.metroid_format.specs.declared.header.Voice.{Voice}
-use Rattle.metroid_format.specs.declared.header.Track.{Track}
 use Rattle.metroid_player.specs.Release.{releaseOf, toldRelease}
 use Rattle.metroid_player.specs.Ctrl1.{silent, ctrl1At}
 use Rattle.metroid_player.specs.declared.record.Channel.{Channel}
@@ -62,16 +61,18 @@ abbrev pub byKind : Kind → Sound → Sound → Sound
 byKind Melodic melodic noise = melodic
 byKind NoiseKind melodic noise = noise
 
-unfoldable pub soundOf : List ℕ → Track → ℕ → Voice → Channel → Sound
-soundOf bank track i voice c =
+-- the offsets of the two tables, the triangle's release byte, the channel's number, what the header has of it, and its record
+unfoldable pub soundOf : List ℕ → ℕ → ℕ → ℕ → ℕ → Voice → Channel → Sound
+soundOf bank periods presets release i voice c =
     byKind (voice .kind)
     (pick (eqb i triangle-channel)
-    (triangleSound (take periods-size (drop (track .periods) bank)) (track .release) c)
-    (squareSound bank (take periods-size (drop (track .periods) bank)) voice c))
-    (noiseSound (take presets-size (drop (track .presets) bank)) (c .sounding))
+    (triangleSound (take periods-size (drop periods bank)) release c)
+    (squareSound bank (take periods-size (drop periods bank)) voice c))
+    (noiseSound (take presets-size (drop presets bank)) (c .sounding))
 
-abbrev pub eventOf : List ℕ → Track → ℕ → Voice → Channel → Bool → Event
-eventOf bank track i voice c began = record { began = began; sound = soundOf bank track i voice c }
+abbrev pub eventOf : List ℕ → ℕ → ℕ → ℕ → ℕ → Voice → Channel → Bool → Event
+eventOf bank periods presets release i voice c began =
+    record { began = began; sound = soundOf bank periods presets release i voice c }
 
 -- 0 off, 1 rest, 2 note; whether it began; then key, period and ctrl 1 or release, or the preset's bytes
 abbrev pub toldEvent : Event → List ℕ

@@ -55,12 +55,13 @@ oneOff c = record {
   sounding = c .sounding;
 }
 
-abbrev pub playing : List ℕ → Track → ℕ → Voice → Bool → ℕ → Channel → Turn
-playing bank track i voice began count c =
-    record { turned = Turned.Plays (eventOf bank track i voice c began) (oneOff c); count = count }
+abbrev pub playing : List ℕ → ℕ → ℕ → ℕ → ℕ → Voice → Bool → ℕ → Channel → Turn
+playing bank periods presets release i voice began count c =
+    record { turned = Turned.Plays (eventOf bank periods presets release i voice c began) (oneOff c); count = count }
 
 abbrev pub turnBy : List ℕ → Track → ℕ → Voice → Cursor → ℕ → Stop → Turn
-turnBy bank track i voice cursor count (Stop.Note b) = playing bank track i voice true count (begun cursor b)
+turnBy bank track i voice cursor count (Stop.Note b) =
+    playing bank (track .periods) (track .presets) (track .release) i voice true count (begun cursor b)
 turnBy bank track i voice cursor count Stop.End = record { turned = Turned.End; count = count }
 turnBy bank track i voice cursor count (Stop.Refused number at) = record { turned = Turned.Refused number at; count = count }
 
@@ -73,7 +74,7 @@ turnOf bank track i voice c =
     pick (voice .used)
     (pick (eqb (c .left) 0)
     (turnOfReading bank track i voice (readUntil data-limit (channelSource bank track voice) (cursorOf c)))
-    (playing bank track i voice false 0 c))
+    (playing bank (track .periods) (track .presets) (track .release) i voice false 0 c))
     (record { turned = Turned.Plays offEvent c; count = 0 })
 
 -- the channels gone through in order: those reached, and the answer

@@ -8,7 +8,6 @@ use metroid_format::channel::Frames;
 use metroid_format::channel::QuarterFrames;
 use metroid_format::command::Kind;
 use metroid_format::header;
-use metroid_format::header::Track;
 use metroid_format::header::Voice;
 ghost use mathlib.Core.Path.{_≡_};
 ghost use Prim.Native.Nat.{_-_};
@@ -131,12 +130,18 @@ fn noise_sound(presets: &[u8], b: u8) -> Sound
 }
 
 // The sound of the i-th channel, whose record has the frame not yet taken off.
-fn sound_of(bank: &[u8], track: Track, i: usize, voice: Voice, channel: Channel) -> Sound
-    ensures { λ r. ⌜ r ≡ soundOf (now (bank .entry)) track i voice channel ⌝ }
+fn sound_of(
+    bank: &[u8],
+    periods: usize,
+    presets: usize,
+    release: u8,
+    i: usize,
+    voice: Voice,
+    channel: Channel,
+) -> Sound
+    ensures { λ r. ⌜ r ≡ soundOf (now (bank .entry)) periods presets release i voice channel ⌝ }
 {
     let kind = voice.kind;
-    let periods = track.periods;
-    let presets = track.presets;
     match kind {
         Kind::Noise => {
             noise_sound(
@@ -147,7 +152,7 @@ fn sound_of(bank: &[u8], track: Track, i: usize, voice: Voice, channel: Channel)
         Kind::Melodic => {
             let table = bank::part(bank, periods, bank::PERIODS_SIZE);
             if i == TRIANGLE {
-                triangle_sound(table, track.release, channel)
+                triangle_sound(table, release, channel)
             } else {
                 square_sound(bank, table, voice, channel)
             }
@@ -157,14 +162,16 @@ fn sound_of(bank: &[u8], track: Track, i: usize, voice: Voice, channel: Channel)
 
 pub fn event_of(
     bank: &[u8],
-    track: Track,
+    periods: usize,
+    presets: usize,
+    release: u8,
     i: usize,
     voice: Voice,
     channel: Channel,
     began: bool,
 ) -> Event
-    ensures { λ r. ⌜ r ≡ eventOf (now (bank .entry)) track i voice channel began ⌝ }
+    ensures { λ r. ⌜ r ≡ eventOf (now (bank .entry)) periods presets release i voice channel began ⌝ }
 {
-    let sound = sound_of(bank, track, i, voice, channel);
+    let sound = sound_of(bank, periods, presets, release, i, voice, channel);
     Event { began, sound }
 }

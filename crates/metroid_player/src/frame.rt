@@ -93,16 +93,18 @@ fn one_off(channel: Channel) -> Channel
 // A channel that sounds, whose record has the frame not yet taken off.
 fn play(
     bank: &[u8],
-    track: Track,
+    periods: usize,
+    presets: usize,
+    release: u8,
     i: usize,
     voice: Voice,
     began: bool,
     count: u32,
     channel: Channel,
 ) -> Turn
-    ensures { λ r. ⌜ r ≡ playing (now (bank .entry)) track i voice began count channel ⌝ }
+    ensures { λ r. ⌜ r ≡ playing (now (bank .entry)) periods presets release i voice began count channel ⌝ }
 {
-    let event = event::event_of(bank, track, i, voice, channel, began);
+    let event = event::event_of(bank, periods, presets, release, i, voice, channel, began);
     let next = one_off(channel);
     Turn {
         turned: Turned::Plays(event, next),
@@ -138,7 +140,17 @@ fn read_turn(bank: &[u8], track: Track, i: usize, voice: Voice, channel: Channel
     match stop {
         Stop::Note(b) => {
             let cursor = reading.cursor;
-            play(bank, track, i, voice, true, count, begun_channel(cursor, b))
+            play(
+                bank,
+                track.periods,
+                track.presets,
+                track.release,
+                i,
+                voice,
+                true,
+                count,
+                begun_channel(cursor, b),
+            )
         }
         Stop::End => Turn {
             turned: Turned::End,
@@ -161,7 +173,17 @@ fn take_turn(bank: &[u8], track: Track, i: usize, voice: Voice, channel: Channel
         if channel.left == 0 {
             return read_turn(bank, track, i, voice, channel);
         }
-        return play(bank, track, i, voice, false, 0, channel);
+        return play(
+            bank,
+            track.periods,
+            track.presets,
+            track.release,
+            i,
+            voice,
+            false,
+            0,
+            channel,
+        );
     }
     let event = event::off();
     Turn {

@@ -113,9 +113,9 @@ module _ (bank : List ℕ) (track : Track) (i : ℕ) (v : Voice) (c : Channel) w
       rw e (q .next-within, q .start-within)
 
   module _ (r : Reading) (e : r ≡ readUntil data-limit (channelSource bank track v) (cursorOf c)) where
-    pub turn-note : (b : ℕ) → r .stop ≡ Stop.Note b → (begins : Channel) → begins ≡ begun (r .cursor) b → (t : Turn) → t ≡ playing bank track i v true (r .count) begins
+    pub turn-note : (b : ℕ) → r .stop ≡ Stop.Note b → (begins : Channel) → begins ≡ begun (r .cursor) b → (t : Turn) → t ≡ playing bank (track .periods) (track .presets) (track .release) i v true (r .count) begins
         → t ≡ turnOfReading bank track i v (readUntil data-limit (channelSource bank track v) (cursorOf c))
-    turn-note b s begins f t g = rw (← e) (g ∙ ap (λ (x : Channel). playing bank track i v true (r .count) x) f ∙ ap (turnBy bank track i v (r .cursor) (r .count)) (sym s))
+    turn-note b s begins f t g = rw (← e) (g ∙ ap (λ (x : Channel). playing bank (track .periods) (track .presets) (track .release) i v true (r .count) x) f ∙ ap (turnBy bank track i v (r .cursor) (r .count)) (sym s))
 
     pub turn-end : r .stop ≡ Stop.End → record { turned = Turned.End; count = r .count } ≡ turnOfReading bank track i v (readUntil data-limit (channelSource bank track v) (cursorOf c))
     turn-end s = rw (← e) (ap (turnBy bank track i v (r .cursor) (r .count)) (sym s))
@@ -130,7 +130,7 @@ module _ (bank : List ℕ) (track : Track) (i : ℕ) (v : Voice) (c : Channel) w
   unfolding turnOf
   turn-reading t u z e = pick-true _ _ _ t u (pick-eq _ _ _ _ t z e)
 
-  pub turn-sounding : (t : Turn) → v .used ≡ true → (c .left ≡ 0 → ⊥) → t ≡ playing bank track i v false 0 c → t ≡ turnOf bank track i v c
+  pub turn-sounding : (t : Turn) → v .used ≡ true → (c .left ≡ 0 → ⊥) → t ≡ playing bank (track .periods) (track .presets) (track .release) i v false 0 c → t ≡ turnOf bank track i v c
   unfolding turnOf
   turn-sounding t u z e = pick-true _ _ _ t u (pick-ne _ _ _ _ t z e)
 

@@ -97,7 +97,7 @@ module _ (bank : List ℕ) (track : Track) where
 
     -- a note that sounds, with a frame taken off
     plays-on : (began : Bool) (count : ℕ) (channel : Channel) {n : ℕ} {finish : Finish} → 0 < channel .left → Running voice channel n finish →
-        Turns voice n finish (playing bank track i voice began count channel)
+        Turns voice n finish (playing bank (track .periods) (track .presets) (track .release) i voice began count channel)
     plays-on began count channel {n} h r =
         let one : n ≡ suc (channel .left - 1 + r .walking) = omega (arith, r .frames) in
         let (l, s) = r .sounds h in
