@@ -17,7 +17,7 @@ use Rattle.metroid_format.specs.declared.header.Track.{Track}
 use Rattle.metroid_format.specs.declared.channel.Cursor.{Cursor}
 use Rattle.metroid_format.specs.declared.channel.Stop.{Stop}
 use Rattle.metroid_format.specs.declared.channel.Reading.{Reading}
-use Rattle.metroid_player.specs.Record.{four, freshPlayer, endedPlayer, cursorOf, channelsFit}
+use Rattle.metroid_player.specs.Record.{four, freshChannel, freshPlayer, endedPlayer, cursorOf, channelsFit}
 use Rattle.metroid_player.specs.Event.{offEvent, eventOf, toldEvent}
 use Rattle.metroid_player.specs.declared.record.Channel.{Channel}
 use Rattle.metroid_player.specs.declared.record.Player.{Player}
@@ -57,13 +57,17 @@ oneOff c = record {
 
 abbrev pub playing : List ℕ → ℕ → ℕ → ℕ → ℕ → Voice → Bool → ℕ → Channel → Turn
 playing bank periods presets release i voice began count c =
-    record { turned = Turned.Plays (eventOf bank periods presets release i voice c began) (oneOff c); count = count }
+    record { turned = Turned.Plays; event = eventOf bank periods presets release i voice c began; channel = oneOff c; count = count }
+
+-- a channel that ends the frame sounds nothing
+abbrev pub breaking : Turned → ℕ → Turn
+breaking turned count = record { turned = turned; event = offEvent; channel = freshChannel; count = count }
 
 abbrev pub turnBy : List ℕ → Track → ℕ → Voice → Cursor → ℕ → Stop → Turn
 turnBy bank track i voice cursor count (Stop.Note b) =
     playing bank (track .periods) (track .presets) (track .release) i voice true count (begun cursor b)
-turnBy bank track i voice cursor count Stop.End = record { turned = Turned.End; count = count }
-turnBy bank track i voice cursor count (Stop.Refused number at) = record { turned = Turned.Refused number at; count = count }
+turnBy bank track i voice cursor count Stop.End = breaking Turned.End count
+turnBy bank track i voice cursor count (Stop.Refused number at) = breaking (Turned.Refused number at) count
 
 abbrev pub turnOfReading : List ℕ → Track → ℕ → Voice → Reading → Turn
 turnOfReading bank track i voice r = turnBy bank track i voice (r .cursor) (r .count) (r .stop)
@@ -75,7 +79,7 @@ turnOf bank track i voice c =
     (pick (eqb (c .left) 0)
     (turnOfReading bank track i voice (readUntil data-limit (channelSource bank track voice) (cursorOf c)))
     (playing bank (track .periods) (track .presets) (track .release) i voice false 0 c))
-    (record { turned = Turned.Plays offEvent c; count = 0 })
+    (record { turned = Turned.Plays; event = offEvent; channel = c; count = 0 })
 
 -- the channels gone through in order: those reached, and the answer
 pub record Settled : Type 0 where
@@ -88,19 +92,19 @@ abbrev pub settled : Answer → Settled
 settled answer = record { answer = answer; events = []; counts = []; channels = [] }
 
 -- an end met by any channel ends the frame at once, and so does a fault: later channels are not read
-abbrev pub settleBy : ℕ → ℕ → Turned → Settled → Settled
-settleBy i count (Turned.Plays event channel) rest = record {
+abbrev pub settleBy : ℕ → Turn → Turned → Settled → Settled
+settleBy i t Turned.Plays rest = record {
   answer = rest .answer;
-  events = event ∷ rest .events;
-  counts = count ∷ rest .counts;
-  channels = channel ∷ rest .channels;
+  events = t .event ∷ rest .events;
+  counts = t .count ∷ rest .counts;
+  channels = t .channel ∷ rest .channels;
 }
-settleBy i count Turned.End rest = record { answer = Answer.End; events = []; counts = count ∷ []; channels = [] }
-settleBy i count (Turned.Refused number at) rest =
-    record { answer = Answer.Fault number i at; events = []; counts = count ∷ []; channels = [] }
+settleBy i t Turned.End rest = record { answer = Answer.End; events = []; counts = t .count ∷ []; channels = [] }
+settleBy i t (Turned.Refused number at) rest =
+    record { answer = Answer.Fault number i at; events = []; counts = t .count ∷ []; channels = [] }
 
 abbrev pub settleTurn : ℕ → Turn → Settled → Settled
-settleTurn i t rest = settleBy i (t .count) (t .turned) rest
+settleTurn i t rest = settleBy i t (t .turned) rest
 
 unfoldable pub settleFrom : List ℕ → Track → ℕ → List Voice → List Channel → Settled
 settleFrom bank track i [] cs = settled Answer.Events

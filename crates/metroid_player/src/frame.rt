@@ -20,13 +20,12 @@ ghost use Prim.Native.Nat.{_≤_};
 ghost use Rattle.metroid_format.specs.Command.{data-limit};
 ghost use Rattle.metroid_format.specs.Channel.{readUntil};
 ghost use Rattle.metroid_player.specs.Record.{cursorOf, channelFits, channelsFit};
-ghost use Rattle.metroid_player.specs.Frame.{channelSource, begun, oneOff, playing, turnOfReading, turnOf, silent, settleFrom, framed, frameOfTrack, frameOf, startOf, toldFramed, toldStarted};
+ghost use Rattle.metroid_player.specs.Frame.{channelSource, begun, oneOff, playing, breaking, turnOfReading, turnOf, silent, settleFrom, framed, frameOfTrack, frameOf, startOf, toldFramed, toldStarted};
 ghost use Rattle.metroid_format.specs.Number.{Answers};
 
 // What a channel does in a frame.
 enum Turned {
-    // its event, and its record with the frame taken off
-    Plays(Event, Channel),
+    Plays,
     End,
     // the number of the refusal and the offset of the byte
     Refused(u32, usize),
@@ -34,6 +33,9 @@ enum Turned {
 
 struct Turn {
     pub turned: Turned,
+    pub event: Event,
+    // its record with the frame taken off
+    pub channel: Channel,
     // commands read
     pub count: u32,
 }
@@ -107,7 +109,23 @@ fn play(
     let event = event::event_of(bank, periods, presets, release, i, voice, channel, began);
     let next = one_off(channel);
     Turn {
-        turned: Turned::Plays(event, next),
+        turned: Turned::Plays,
+        event,
+        channel: next,
+        count,
+    }
+}
+
+// A channel that ends the frame.
+fn break_off(turned: Turned, count: u32) -> Turn
+    ensures { λ r. ⌜ r ≡ breaking turned count ⌝ }
+{
+    let event = event::off();
+    let channel = record::fresh_channel();
+    Turn {
+        turned,
+        event,
+        channel,
         count,
     }
 }
@@ -152,14 +170,8 @@ fn read_turn(bank: &[u8], track: Track, i: usize, voice: Voice, channel: Channel
                 begun_channel(cursor, b),
             )
         }
-        Stop::End => Turn {
-            turned: Turned::End,
-            count,
-        },
-        Stop::Refused(number, at) => Turn {
-            turned: Turned::Refused(number, at),
-            count,
-        },
+        Stop::End => break_off(Turned::End, count),
+        Stop::Refused(number, at) => break_off(Turned::Refused(number, at), count),
     }
 }
 
@@ -187,7 +199,9 @@ fn take_turn(bank: &[u8], track: Track, i: usize, voice: Voice, channel: Channel
     }
     let event = event::off();
     Turn {
-        turned: Turned::Plays(event, channel),
+        turned: Turned::Plays,
+        event,
+        channel,
         count: 0,
     }
 }
@@ -226,20 +240,21 @@ fn settle(bank: &[u8], track: Track, player: Player) -> Framed
     requires { ⌜ channelsFit (track .voices) (player .channels) ≡ true ⌝ }
     ensures { λ r. ⌜ r ≡ framed track player (settleFrom (now (bank .entry)) track 0 (track .voices) (player .channels)) ⌝ }
 {
-    let voices = track.voices;
     let mut channels = player.channels;
     let off = event::off();
     let mut events = [off; 4];
     let mut counts = [0u32; 4];
     let mut i: usize = 0;
     while i < 4 {
-        let voice = voices[i];
+        let voice = track.voices[i];
         let channel = channels[i];
         let turn = take_turn(bank, track, i, voice, channel);
         let turned = turn.turned;
         counts[i] = turn.count;
         match turned {
-            Turned::Plays(event, next) => {
+            Turned::Plays => {
+                let event = turn.event;
+                let next = turn.channel;
                 events[i] = event;
                 channels[i] = next;
                 i += 1;

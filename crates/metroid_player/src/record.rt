@@ -27,7 +27,7 @@ pub struct Player {
     pub channels: [Channel; 4],
 }
 
-fn fresh_channel() -> Channel
+pub fn fresh_channel() -> Channel
     ensures { λ r. ⌜ r ≡ freshChannel ⌝ }
 {
     Channel {

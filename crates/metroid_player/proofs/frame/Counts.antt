@@ -57,11 +57,11 @@ module _ (most : ℕ) where
   pub none-most : AtMost most (four 0)
   none-most = (omega arith, (omega arith, (omega arith, (omega arith, tt))))
 
-  settle-by-most : (i count : ℕ) (turned : Turned) (rest : Settled) → count ≤ most → AtMost most (rest .counts) →
-      AtMost most (settleBy i count turned rest .counts)
-  settle-by-most i count (Turned.Plays event channel) rest h a = (h, a)
-  settle-by-most i count Turned.End rest h a = (h, tt)
-  settle-by-most i count (Turned.Refused number at) rest h a = (h, tt)
+  settle-by-most : (i : ℕ) (t : Turn) (turned : Turned) (rest : Settled) → t .count ≤ most → AtMost most (rest .counts) →
+      AtMost most (settleBy i t turned rest .counts)
+  settle-by-most i t Turned.Plays rest h a = (h, a)
+  settle-by-most i t Turned.End rest h a = (h, tt)
+  settle-by-most i t (Turned.Refused number at) rest h a = (h, tt)
 
   framed-most : (track : Track) (player : Player) (s : Settled) (answer : Answer) → AtMost most (s .counts) →
       AtMost most (framedBy track player s answer .counts)

@@ -23,7 +23,7 @@ use Rattle.metroid_format.proofs.Picks.{by-test, false-true, pick-true, pick-fa
 use Rattle.metroid_format.proofs.channel.ReadBound.{Placed, reads, reads-placed}
 use Rattle.metroid_player.specs.Record.{four, endedPlayer, cursorOf, channelFits, channelsFit}
 use Rattle.metroid_player.specs.Event.{offEvent}
-use Rattle.metroid_player.specs.Frame.{channelSource, begun, turnBy, oneOff, playing, turnOfReading, turnOf, Settled, settled, settleBy, settleTurn, settleFrom, silent, framed}
+use Rattle.metroid_player.specs.Frame.{channelSource, begun, turnBy, oneOff, playing, breaking, turnOfReading, turnOf, Settled, settled, settleBy, settleTurn, settleFrom, silent, framed}
 use Rattle.metroid_player.specs.declared.record.Channel.{Channel}
 use Rattle.metroid_player.specs.declared.event.Event.{Event}
 use Rattle.metroid_player.specs.declared.frame.Turned.{Turned}
@@ -117,12 +117,13 @@ module _ (bank : List ℕ) (track : Track) (i : ℕ) (v : Voice) (c : Channel) w
         → t ≡ turnOfReading bank track i v (readUntil data-limit (channelSource bank track v) (cursorOf c))
     turn-note b s begins f t g = rw (← e) (g ∙ ap (λ (x : Channel). playing bank (track .periods) (track .presets) (track .release) i v true (r .count) x) f ∙ ap (turnBy bank track i v (r .cursor) (r .count)) (sym s))
 
-    pub turn-end : r .stop ≡ Stop.End → record { turned = Turned.End; count = r .count } ≡ turnOfReading bank track i v (readUntil data-limit (channelSource bank track v) (cursorOf c))
-    turn-end s = rw (← e) (ap (turnBy bank track i v (r .cursor) (r .count)) (sym s))
+    pub turn-end : r .stop ≡ Stop.End → (t : Turn) → t ≡ breaking Turned.End (r .count)
+        → t ≡ turnOfReading bank track i v (readUntil data-limit (channelSource bank track v) (cursorOf c))
+    turn-end s t g = rw (← e) (g ∙ ap (turnBy bank track i v (r .cursor) (r .count)) (sym s))
 
     pub turn-refused : (number at : ℕ) → r .stop ≡ Stop.Refused number at
-        → record { turned = Turned.Refused number at; count = r .count } ≡ turnOfReading bank track i v (readUntil data-limit (channelSource bank track v) (cursorOf c))
-    turn-refused number at s = rw (← e) (ap (turnBy bank track i v (r .cursor) (r .count)) (sym s))
+        → (t : Turn) → t ≡ breaking (Turned.Refused number at) (r .count) → t ≡ turnOfReading bank track i v (readUntil data-limit (channelSource bank track v) (cursorOf c))
+    turn-refused number at s t g = rw (← e) (g ∙ ap (turnBy bank track i v (r .cursor) (r .count)) (sym s))
 
 -- a voice by its use and the frames left
 module _ (bank : List ℕ) (track : Track) (i : ℕ) (v : Voice) (c : Channel) where
@@ -134,7 +135,7 @@ module _ (bank : List ℕ) (track : Track) (i : ℕ) (v : Voice) (c : Channel) w
   unfolding turnOf
   turn-sounding t u z e = pick-true _ _ _ t u (pick-ne _ _ _ _ t z e)
 
-  pub turn-off : (e : Event) → v .used ≡ false → e ≡ offEvent → record { turned = Turned.Plays e c; count = 0 } ≡ turnOf bank track i v c
+  pub turn-off : (e : Event) → v .used ≡ false → e ≡ offEvent → record { turned = Turned.Plays; event = e; channel = c; count = 0 } ≡ turnOf bank track i v c
   unfolding turnOf
   turn-off e u f = pick-false _ _ _ _ u (rw f)
 
@@ -236,20 +237,20 @@ module _ (bank : List ℕ) (track : Track) (player : Player) where
 
       -- t is what `take_turn` answers
       module _ (t : Turn) (q : t ≡ turnOf bank track i voice channel) where
-        settled-by : (x : Turned) → t .turned ≡ x → settledFrom i ≡ settleBy i (t .count) x (settledFrom (i + 1))
-        settled-by x e = settled-next ∙ rw (← q) (ap (λ (y : Turned). settleBy i (t .count) y (settledFrom (i + 1))) e)
+        settled-by : (x : Turned) → t .turned ≡ x → settledFrom i ≡ settleBy i t x (settledFrom (i + 1))
+        settled-by x e = settled-next ∙ rw (← q) (ap (λ (y : Turned). settleBy i t y (settledFrom (i + 1))) e)
 
-        pub settling-more : (event : Event) (next : Channel) → t .turned ≡ Turned.Plays event next
-            → Settling (set events i event) (set counts i (t .count)) (set channels i next) (i + 1)
-        settling-more event next e =
+        pub settling-more : t .turned ≡ Turned.Plays
+            → Settling (set events i (t .event)) (set counts i (t .count)) (set channels i (t .channel)) (i + 1)
+        settling-more e =
             let s = settled-by _ e in
             record {
               within = omega arith;
               voices-four = m .voices-four;
-              events-four = length-set events i event ∙ m .events-four;
+              events-four = length-set events i (t .event) ∙ m .events-four;
               counts-four = length-set counts i (t .count) ∙ m .counts-four;
-              channels-four = length-set channels i next ∙ m .channels-four;
-              rest-given = drop-set-lt (i + 1) channels i next (omega arith) ∙ given-next;
+              channels-four = length-set channels i (t .channel) ∙ m .channels-four;
+              rest-given = drop-set-lt (i + 1) channels i (t .channel) (omega arith) ∙ given-next;
               rest-fits = both-fit .1;
               same-answer = m .same-answer ∙ rw s;
               same-events = m .same-events ∙ rw (s, add-one i);

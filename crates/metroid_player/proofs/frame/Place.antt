@@ -30,7 +30,7 @@ use Rattle.metroid_player.proofs.frame.Counts.{source-within}
 use Rattle.metroid_player.proofs.frame.Laws.{next-fits, start-fits}
 
 abbrev TurnWithin : Turned → Type 0
-TurnWithin (Turned.Plays event channel) = Unit {0}
+TurnWithin Turned.Plays = Unit {0}
 TurnWithin Turned.End = Unit {0}
 TurnWithin (Turned.Refused number at) = at ≤ data-limit
 
@@ -52,11 +52,11 @@ module _ (bank : List ℕ) (track : Track) where
       tt) λ _.
       tt
 
-  by-turned : (n i count : ℕ) (turned : Turned) (rest : Settled) → i < n → TurnWithin turned → Placed n (rest .answer) →
-      Placed n (settleBy i count turned rest .answer)
-  by-turned n i count (Turned.Plays event channel) rest h t b = b
-  by-turned n i count Turned.End rest h t b = tt
-  by-turned n i count (Turned.Refused number at) rest h t b = (h, t)
+  by-turned : (n i : ℕ) (t : Turn) (turned : Turned) (rest : Settled) → i < n → TurnWithin turned → Placed n (rest .answer) →
+      Placed n (settleBy i t turned rest .answer)
+  by-turned n i t Turned.Plays rest h w b = b
+  by-turned n i t Turned.End rest h w b = tt
+  by-turned n i t (Turned.Refused number at) rest h w b = (h, w)
 
   settle-placed : (n i : ℕ) (vs : List Voice) (cs : List Channel) → n ≡ i + length vs → channelsFit vs cs ≡ true →
       Placed n (settleFrom bank track i vs cs .answer)

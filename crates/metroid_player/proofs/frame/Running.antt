@@ -26,7 +26,7 @@ use Rattle.metroid_player.proofs.frame.Counts.{source-within}
 use Rattle.metroid_player.specs.Record.{cursorOf, soundFits, channelFits}
 use Rattle.metroid_player.specs.Event.{offEvent}
 use Rattle.metroid_player.specs.Counts.{pairs}
-use Rattle.metroid_player.specs.Frame.{channelSource, begun, oneOff, playing, turnBy, turnOf}
+use Rattle.metroid_player.specs.Frame.{channelSource, begun, oneOff, playing, breaking, turnBy, turnOf}
 use Rattle.metroid_player.specs.declared.record.Channel.{Channel}
 use Rattle.metroid_player.specs.declared.event.Event.{Event}
 use Rattle.metroid_player.specs.declared.frame.Turned.{Turned}
@@ -57,7 +57,7 @@ unused-fits voice channel u = sym (pick-false (voice .used) _ _ _ u refl)
 module _ (bank : List ℕ) (track : Track) where
   -- an unused channel is off and stays as it is
   pub turn-unused : (i : ℕ) (voice : Voice) (channel : Channel) → voice .used ≡ false →
-      turnOf bank track i voice channel ≡ record { turned = Turned.Plays offEvent channel; count = 0 }
+      turnOf bank track i voice channel ≡ record { turned = Turned.Plays; event = offEvent; channel = channel; count = 0 }
   unfolding turnOf
   turn-unused i voice channel u = sym (pick-false (voice .used) _ _ _ u refl)
 
@@ -86,10 +86,10 @@ module _ (bank : List ℕ) (track : Track) where
   -- what the turn of a used channel is, n frames before its stop
   pub data Turns (voice : Voice) : ℕ → Finish → Turn → Type 0 where
     plays : {event : Event} {channel : Channel} {count n : ℕ} {finish : Finish} → Running voice channel n finish →
-        Turns voice (suc n) finish (record { turned = Turned.Plays event channel; count = count })
-    ends : {count : ℕ} → 0 < count → Turns voice 0 Finish.End (record { turned = Turned.End; count = count })
+        Turns voice (suc n) finish (record { turned = Turned.Plays; event = event; channel = channel; count = count })
+    ends : {count : ℕ} → 0 < count → Turns voice 0 Finish.End (breaking Turned.End count)
     faults : {number at count : ℕ} →
-        Turns voice 0 (Finish.Refused number at) (record { turned = Turned.Refused number at; count = count })
+        Turns voice 0 (Finish.Refused number at) (breaking (Turned.Refused number at) count)
 
   module _ (i : ℕ) (voice : Voice) where
     within : length (channelSource bank track voice .bytes) ≤ 2 * pairs

@@ -88,7 +88,7 @@ module _ (bank : List ℕ) (track : Track) where
 
   module _ (i : ℕ) {voices : List Voice} {now : List Ahead} where
     settle-unused : {v : Voice} {channel : Channel} (rest : Settled) → v .used ≡ false → Settles (i + 1) voices now rest →
-        Settles i (v ∷ voices) (nothing ∷ now) (settleTurn i (record { turned = Turned.Plays offEvent channel; count = 0 }) rest)
+        Settles i (v ∷ voices) (nothing ∷ now) (settleTurn i (record { turned = Turned.Plays; event = offEvent; channel = channel; count = 0 }) rest)
     settle-unused _ u (events d r) = events (Nearer.unused d) (AllRunning.unused u r)
     settle-unused _ u (ends d c) = ends (Due.unused d) (more c)
     settle-unused _ u (faults {channel} d e) = faults {channel = channel} (Due.unused d) (omega arith)
