@@ -194,6 +194,9 @@ blankTrack = record {
   voices = unusedVoice Melodic ∷ unusedVoice Melodic ∷ unusedVoice Melodic ∷ unusedVoice Melodic ∷ [];
 }
 
+abbrev pub refusedTrack : ℕ → Opened
+refusedTrack n = record { number = n; track = blankTrack }
+
 -- number 0 and the track, or the first number of 1 to 9 and a blank track
 abbrev pub opened : ℕ → Track → Opened
 opened n t = record { number = n; track = pick (eqb n 0) t blankTrack }

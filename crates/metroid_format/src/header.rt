@@ -4,12 +4,13 @@ use crate::bank::Places;
 use crate::command::Kind;
 ghost use mathlib.Core.Path.{_≡_};
 ghost use Prim.Native.Nat.{_<_};
-ghost use Rattle.metroid_format.specs.Bank.{wordAt};
+ghost use lib.ListN.{take, drop};
+ghost use Rattle.metroid_format.specs.Bank.{offsetOf, wordAt};
 ghost use Rattle.metroid_format.specs.Header.{
   tablesFit,
   placesFit,
   headerAddress,
-  headerOf,
+  header-size,
   windowFits,
   envelopeNumbersFit,
   showsEnd,
@@ -21,12 +22,13 @@ ghost use Rattle.metroid_format.specs.Header.{
   addressesFit,
   allUnused,
   headerNumber,
-  numberOf,
   unusedVoice,
   voiceOf,
   voicesOf,
   trackOf,
   blankTrack,
+  refusedTrack,
+  opened,
   openTrack,
   toldOpened,
 };
@@ -129,11 +131,11 @@ fn header_address(bank: &[u8], places: Places, track: u32) -> usize
     places.header_block as usize + bank::byte(bank, entry) as usize
 }
 
-fn header_of(bank: &[u8], places: Places, track: u32) -> &[u8]
-    ensures { λ r. ⌜ now r ≡ headerOf (now (bank .entry)) places track ⌝ }
+// The header at an address.
+fn header_at(bank: &[u8], address: usize) -> &[u8]
+    ensures { λ r. ⌜ now r ≡ take header-size (drop (offsetOf address) (now (bank .entry))) ⌝ }
 {
-    let at = bank::offset_of(header_address(bank, places, track));
-    bank::part(bank, at, HEADER_SIZE)
+    bank::part(bank, bank::offset_of(address), HEADER_SIZE)
 }
 
 // The top three bits of +0 are 0.
@@ -272,29 +274,6 @@ fn header_number(bank: &[u8], table: u32, header: &[u8]) -> u32
     0
 }
 
-// The first number of 1 to 9, or 0.
-fn number_of(bank: &[u8], places: Places, track: u32) -> u32
-    ensures { λ r. ⌜ r ≡ numberOf (now (bank .entry)) places track ⌝ }
-{
-    if bank.len() != bank::BANK_SIZE {
-        return WRONG_SIZE;
-    }
-    if !places_fit(places) {
-        return TABLE_OUTSIDE;
-    }
-    if places.track_count <= track {
-        return NO_TRACK;
-    }
-    if !bank::fits(header_address(bank, places, track), HEADER_SIZE) {
-        return HEADER_OUTSIDE;
-    }
-    header_number(
-        bank,
-        places.envelope_addresses,
-        header_of(bank, places, track),
-    )
-}
-
 fn unused(kind: Kind) -> Voice
     ensures { λ r. ⌜ r ≡ unusedVoice kind ⌝ }
 {
@@ -392,20 +371,41 @@ fn blank_track() -> Track
     }
 }
 
+fn refused(number: u32) -> Opened
+    ensures { λ r. ⌜ r ≡ refusedTrack number ⌝ }
+{
+    let track = blank_track();
+    Opened { number, track }
+}
+
+// The track of a header, or the first number of 5 to 9.
+fn open_header(bank: &[u8], places: Places, header: &[u8]) -> Opened
+    ensures { λ r. ⌜ r ≡ opened (headerNumber (now (bank .entry)) (places .«envelope_addresses») (now (header .entry))) (trackOf (now (bank .entry)) places (now (header .entry))) ⌝ }
+{
+    let number = header_number(bank, places.envelope_addresses, header);
+    if number != 0 {
+        return refused(number);
+    }
+    let track = track_of(bank, places, header);
+    Opened { number, track }
+}
+
 // A track of a bank, or the first number of 1 to 9.
 pub fn open(bank: &[u8], places: Places, track: u32) -> Opened
     ensures { λ r. ⌜ Answers toldOpened r (openTrack (now (bank .entry)) places track) ⌝ }
 {
-    let number = number_of(bank, places, track);
-    if number != 0 {
-        return Opened {
-            number,
-            track: blank_track(),
-        };
+    if bank.len() != bank::BANK_SIZE {
+        return refused(WRONG_SIZE);
     }
-    let opened = track_of(bank, places, header_of(bank, places, track));
-    Opened {
-        number,
-        track: opened,
+    if !places_fit(places) {
+        return refused(TABLE_OUTSIDE);
     }
+    if places.track_count <= track {
+        return refused(NO_TRACK);
+    }
+    let address = header_address(bank, places, track);
+    if !bank::fits(address, HEADER_SIZE) {
+        return refused(HEADER_OUTSIDE);
+    }
+    open_header(bank, places, header_at(bank, address))
 }
