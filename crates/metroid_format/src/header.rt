@@ -63,11 +63,11 @@ pub const ENVELOPE_REACH: usize = 64;
 pub struct Voice {
     pub used: bool,
     pub kind: Kind,
-    pub data: usize,
     pub has_envelope: bool,
-    pub envelope: usize,
     // ctrl 1 of a square
     pub default: u8,
+    pub data: usize,
+    pub envelope: usize,
 }
 
 // A header, and the offsets of the tables in the bank.
