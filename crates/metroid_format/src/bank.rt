@@ -86,13 +86,13 @@ pub fn byte(bytes: &[u8], at: usize) -> u8
 }
 
 // The little-endian word at an offset, its bytes 0 where there are none.
-pub fn word(bytes: &[u8], at: usize) -> usize
+pub fn word(bytes: &[u8], at: usize) -> u16
     ensures { λ r. ⌜ r ≡ wordAt (now (bytes .entry)) at ⌝ }
 {
     if bytes.len() <= at {
         return 0;
     }
-    byte(bytes, at) as usize + 256 * (byte(bytes, at + 1) as usize)
+    byte(bytes, at) as u16 + 256 * (byte(bytes, at + 1) as u16)
 }
 
 // n bytes from an offset, or to the end, whichever is sooner.

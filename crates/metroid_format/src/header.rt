@@ -66,8 +66,8 @@ pub struct Voice {
     pub has_envelope: bool,
     // ctrl 1 of a square
     pub default: u8,
-    pub data: usize,
-    pub envelope: usize,
+    pub data: u16,
+    pub envelope: u16,
 }
 
 // A header, and the offsets of the tables in the bank.
@@ -172,7 +172,7 @@ fn shows_end(bytes: &[u8]) -> bool
     false
 }
 
-fn envelope_address(bank: &[u8], table: u32, number: u8) -> usize
+fn envelope_address(bank: &[u8], table: u32, number: u8) -> u16
     requires { ⌜ 0 < number ⌝ }
     ensures { λ r. ⌜ r ≡ envelopeAddress (now (bank .entry)) table number ⌝ }
 {
@@ -187,14 +187,14 @@ fn envelope_ends(bank: &[u8], table: u32, number: u8) -> bool
         return true;
     }
     let address = envelope_address(bank, table, number);
-    if !bank::fits(address, 1) {
+    if !bank::fits(address as usize, 1) {
         return false;
     }
-    shows_end(bank::part(bank, bank::offset_of(address), ENVELOPE_REACH))
+    shows_end(bank::part(bank, bank::offset_of(address as usize), ENVELOPE_REACH))
 }
 
 // The envelope of a square by its number and the square's address.
-fn square_ends(bank: &[u8], table: u32, number: u8, address: usize) -> bool
+fn square_ends(bank: &[u8], table: u32, number: u8, address: u16) -> bool
     ensures { λ r. ⌜ r ≡ squareEnds (now (bank .entry)) table number address ⌝ }
 {
     if address == 0 {
@@ -219,7 +219,7 @@ fn address_fits(header: &[u8], at: usize) -> bool
     if address == 0 {
         return true;
     }
-    bank::fits(address, 1)
+    bank::fits(address as usize, 1)
 }
 
 fn addresses_fit(header: &[u8]) -> bool
@@ -287,14 +287,20 @@ fn unused(kind: Kind) -> Voice
     }
 }
 
+fn offset_word(address: u16) -> u16
+    ensures { λ r. ⌜ r ≡ offsetOf address ⌝ }
+{
+    bank::offset_of(address as usize) as u16
+}
+
 // A channel by its address, its envelope number (0 for none) and its default ctrl 1 byte.
-fn voice_of(bank: &[u8], table: u32, kind: Kind, address: usize, number: u8, default: u8) -> Voice
+fn voice_of(bank: &[u8], table: u32, kind: Kind, address: u16, number: u8, default: u8) -> Voice
     ensures { λ r. ⌜ r ≡ voiceOf (now (bank .entry)) table kind address number default ⌝ }
 {
     if address == 0 {
         return unused(kind);
     }
-    let data = bank::offset_of(address);
+    let data = offset_word(address);
     if number == 0 {
         return Voice {
             used: true,
@@ -305,7 +311,7 @@ fn voice_of(bank: &[u8], table: u32, kind: Kind, address: usize, number: u8, def
             default,
         };
     }
-    let envelope = bank::offset_of(envelope_address(bank, table, number));
+    let envelope = offset_word(envelope_address(bank, table, number));
     Voice {
         used: true,
         kind,

@@ -11,5 +11,6 @@ address-fits-spec =
     (tie.spec
     (λ c κs. search needs)
     (λ c. search (picks, needs) depth 12)
+    (λ c. search needs)
     (λ c κs. search needs)
     (λ c. rw (← (c .before .before .word .ensures)) (search (picks, needs) depth 12)))

@@ -11,8 +11,10 @@ envelope-ends-spec =
     (tie.spec
     (λ c. search (guards, needs) depth 12)
     (λ c κs. search needs)
+    (λ c. search needs)
     (λ c κs. search needs)
     (λ c. rw (← (c .before .before .envelope-address .ensures)) (search (guards, needs) depth 12))
+    (λ c. search needs)
     (λ c κs. search needs)
     (λ c κs. search needs)
     (λ c κs. search needs)
