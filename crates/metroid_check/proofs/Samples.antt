@@ -32,7 +32,7 @@ use Rattle.metroid_format.specs.Timeline.{passedOf, passFrom, timelineOf}
 use Rattle.metroid_player.specs.Release.{dynamic, releaseOf}
 use Rattle.metroid_player.specs.Ctrl1.{defaultCtrl1, combined, ctrl1At}
 use Rattle.metroid_player.specs.Record.{soundFits, channelFits}
-use Rattle.metroid_player.specs.Event.{periodAt, envelopeOf, squareSound, triangleSound, noiseSound, soundOf}
+use Rattle.metroid_player.specs.Event.{periodAt, envelopeOf, melodicRest, noteCtrl1, melodicNote, noiseSound, soundOf}
 use Rattle.metroid_player.specs.Frame.{turnOf, settleFrom, frameOfTrack, frameOf, startOf, toldFramed}
 use Rattle.metroid_player.specs.declared.frame.Framed.{Framed}
 use Rattle.metroid_check.specs.Run.{framesFrom, runOf}
@@ -199,5 +199,5 @@ abbrev expected : Sample → Told × List Seen
 expected s = (s .verdict, s .seen)
 
 samples-right : map found samples ≡ map expected samples
-unfolding samples isKey isPreset noteAfter commandOf commandAt within wordAt tablesFit placesFit headerAddress headerOf windowFits envelopeNumbersFit envelopeAddress envelopeEnds squareEnds squaresEnd addressFits addressesFit allUnused headerNumber numberOf voiceOf voicesOf trackOf openTrack lengthFault counterOf playedAt stepOf readFrom readUntil passedOf passFrom timelineOf dynamic releaseOf defaultCtrl1 combined ctrl1At soundFits channelFits periodAt envelopeOf squareSound triangleSound noiseSound soundOf turnOf settleFrom frameOfTrack frameOf startOf framesFrom runOf stopOf soonestFrom verdictOf
+unfolding samples isKey isPreset noteAfter commandOf commandAt within wordAt tablesFit placesFit headerAddress headerOf windowFits envelopeNumbersFit envelopeAddress envelopeEnds squareEnds squaresEnd addressFits addressesFit allUnused headerNumber numberOf voiceOf voicesOf trackOf openTrack lengthFault counterOf playedAt stepOf readFrom readUntil passedOf passFrom timelineOf dynamic releaseOf defaultCtrl1 combined ctrl1At soundFits channelFits periodAt envelopeOf melodicRest noteCtrl1 melodicNote noiseSound soundOf turnOf settleFrom frameOfTrack frameOf startOf framesFrom runOf stopOf soonestFrom verdictOf
 samples-right = refl

@@ -34,7 +34,7 @@ fn timeline_of(bank: &[u8], track: Track, voice: Voice) -> Timeline
     ensures { λ r. ⌜ r ≡ timelineOf (channelSource (now (bank .entry)) track voice) ⌝ }
 {
     let kind = voice.kind;
-    let at = voice.data;
+    let at = voice.data as usize;
     let table = track.lengths;
     timeline::timeline_of(
         kind,

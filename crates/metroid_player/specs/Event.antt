@@ -10,6 +10,7 @@ use Rattle.metroid_format.specs.Header.{envelope-reach}
 use Rattle.metroid_format.specs.declared.command.Kind.{Kind}
 use Rattle.metroid_format.specs.declared.command.Kind.the-variants.{Melodic, Noise as NoiseKind}
 use Rattle.metroid_format.specs.declared.header.Voice.{Voice}
+use Rattle.metroid_format.specs.declared.header.Track.{Track}
 use Rattle.metroid_player.specs.Release.{releaseOf, toldRelease}
 use Rattle.metroid_player.specs.Ctrl1.{silent, ctrl1At}
 use Rattle.metroid_player.specs.declared.record.Channel.{Channel}
@@ -36,43 +37,49 @@ periodAt periods key = 256 * getD periods (2 * key) 0 + getD periods (2 * key + 
 unfoldable pub envelopeOf : List ℕ → Voice → List ℕ
 envelopeOf bank voice = pick (voice .«has_envelope») (take envelope-reach (drop (voice .envelope) bank)) []
 
--- the record has the frame not yet taken off: the envelope's index is the length less the frames left; a rest gives $10
-unfoldable pub squareSound : List ℕ → List ℕ → Voice → Channel → Sound
-squareSound bank periods voice c =
-    pick (eqb (c .sounding) melodic-rest) (SquareRest silent)
-    (Square (c .sounding / 2) (periodAt periods (c .sounding / 2)) (ctrl1At (voice .default) (envelopeOf bank voice) (c .length - c .left)))
+-- the channels are square 1, square 2, triangle, noise
+abbrev pub triangle-channel : ℕ
+triangle-channel = 2
 
--- release for a triangle note, 0 for its rest
-unfoldable pub triangleSound : List ℕ → ℕ → Channel → Sound
-triangleSound periods release c =
-    pick (eqb (c .sounding) melodic-rest) (TriangleRest (After (record { count = 0 })))
-    (Triangle (c .sounding / 2) (periodAt periods (c .sounding / 2)) (releaseOf release (record { count = c .length })))
+-- ctrl 1 $10 of a square, release 0 of a triangle
+unfoldable pub melodicRest : ℕ → Sound
+melodicRest i = pick (eqb i triangle-channel) (TriangleRest (After (record { count = 0 }))) (SquareRest silent)
+
+-- the envelope's index is the length less the frames left, before the frame is taken off
+unfoldable pub noteCtrl1 : List ℕ → Voice → Channel → ℕ
+noteCtrl1 bank voice c = ctrl1At (voice .default) (envelopeOf bank voice) (c .length - c .left)
+
+-- key and period, and ctrl 1 of a square, release of a triangle
+unfoldable pub melodicNote : List ℕ → Track → ℕ → Voice → Channel → Sound
+melodicNote bank track i voice c =
+    pick (eqb i triangle-channel)
+    (Triangle key period (releaseOf (track .release) (record { count = c .length })))
+    (Square key period (noteCtrl1 bank voice c))
+  where
+    key : ℕ
+    key = c .sounding / 2
+
+    period : ℕ
+    period = periodAt (take periods-size (drop (track .periods) bank)) key
 
 -- three bytes at that offset in the preset table
 unfoldable pub noiseSound : List ℕ → ℕ → Sound
 noiseSound presets b =
     pick (eqb b noise-rest) NoiseRest (Noise (getD presets b 0) (getD presets (b + 1) 0) (getD presets (b + 2) 0))
 
--- the channels are square 1, square 2, triangle, noise
-abbrev pub triangle-channel : ℕ
-triangle-channel = 2
-
 abbrev pub byKind : Kind → Sound → Sound → Sound
 byKind Melodic melodic noise = melodic
 byKind NoiseKind melodic noise = noise
 
--- the offsets of the two tables, the triangle's release byte, the channel's number, what the header has of it, and its record
-unfoldable pub soundOf : List ℕ → ℕ → ℕ → ℕ → ℕ → Voice → Channel → Sound
-soundOf bank periods presets release i voice c =
+-- the sound of the i-th channel, whose record has the frame not yet taken off
+unfoldable pub soundOf : List ℕ → Track → ℕ → Voice → Channel → Sound
+soundOf bank track i voice c =
     byKind (voice .kind)
-    (pick (eqb i triangle-channel)
-    (triangleSound (take periods-size (drop periods bank)) release c)
-    (squareSound bank (take periods-size (drop periods bank)) voice c))
-    (noiseSound (take presets-size (drop presets bank)) (c .sounding))
+    (pick (eqb (c .sounding) melodic-rest) (melodicRest i) (melodicNote bank track i voice c))
+    (noiseSound (take presets-size (drop (track .presets) bank)) (c .sounding))
 
-abbrev pub eventOf : List ℕ → ℕ → ℕ → ℕ → ℕ → Voice → Channel → Bool → Event
-eventOf bank periods presets release i voice c began =
-    record { began = began; sound = soundOf bank periods presets release i voice c }
+abbrev pub eventOf : List ℕ → Track → ℕ → Voice → Channel → Bool → Event
+eventOf bank track i voice c began = record { began = began; sound = soundOf bank track i voice c }
 
 -- 0 off, 1 rest, 2 note; whether it began; then key, period and ctrl 1 or release, or the preset's bytes
 abbrev pub toldEvent : Event → List ℕ

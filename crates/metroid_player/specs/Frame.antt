@@ -17,7 +17,7 @@ use Rattle.metroid_format.specs.declared.header.Track.{Track}
 use Rattle.metroid_format.specs.declared.channel.Cursor.{Cursor}
 use Rattle.metroid_format.specs.declared.channel.Stop.{Stop}
 use Rattle.metroid_format.specs.declared.channel.Reading.{Reading}
-use Rattle.metroid_player.specs.Record.{four, freshChannel, freshPlayer, endedPlayer, cursorOf, channelsFit}
+use Rattle.metroid_player.specs.Record.{four, freshPlayer, endedPlayer, cursorOf, channelsFit}
 use Rattle.metroid_player.specs.Event.{offEvent, eventOf, toldEvent}
 use Rattle.metroid_player.specs.declared.record.Channel.{Channel}
 use Rattle.metroid_player.specs.declared.record.Player.{Player}
@@ -55,31 +55,23 @@ oneOff c = record {
   sounding = c .sounding;
 }
 
-abbrev pub playing : List ℕ → ℕ → ℕ → ℕ → ℕ → Voice → Bool → ℕ → Channel → Turn
-playing bank periods presets release i voice began count c =
-    record { turned = Turned.Plays; event = eventOf bank periods presets release i voice c began; channel = oneOff c; count = count }
+abbrev pub turnBy : Channel → Cursor → ℕ → Stop → Turn
+turnBy c cursor count (Stop.Note b) = record { turned = Turned.Plays; began = true; channel = begun cursor b; count = count }
+turnBy c cursor count Stop.End = record { turned = Turned.End; began = false; channel = c; count = count }
+turnBy c cursor count (Stop.Refused number at) =
+    record { turned = Turned.Refused number at; began = false; channel = c; count = count }
 
--- a channel that ends the frame sounds nothing
-abbrev pub breaking : Turned → ℕ → Turn
-breaking turned count = record { turned = turned; event = offEvent; channel = freshChannel; count = count }
+abbrev pub turnOfReading : Channel → Reading → Turn
+turnOfReading c r = turnBy c (r .cursor) (r .count) (r .stop)
 
-abbrev pub turnBy : List ℕ → Track → ℕ → Voice → Cursor → ℕ → Stop → Turn
-turnBy bank track i voice cursor count (Stop.Note b) =
-    playing bank (track .periods) (track .presets) (track .release) i voice true count (begun cursor b)
-turnBy bank track i voice cursor count Stop.End = breaking Turned.End count
-turnBy bank track i voice cursor count (Stop.Refused number at) = breaking (Turned.Refused number at) count
-
-abbrev pub turnOfReading : List ℕ → Track → ℕ → Voice → Reading → Turn
-turnOfReading bank track i voice r = turnBy bank track i voice (r .cursor) (r .count) (r .stop)
-
--- what the i-th channel does: unused ones are off; a channel with no frames left reads commands until a key, rest, preset, end or fault
-unfoldable pub turnOf : List ℕ → Track → ℕ → Voice → Channel → Turn
-turnOf bank track i voice c =
+-- what a channel does: an unused one is off; one with no frames left reads commands until a key, rest, preset, end or fault
+unfoldable pub turnOf : List ℕ → Track → Voice → Channel → Turn
+turnOf bank track voice c =
     pick (voice .used)
     (pick (eqb (c .left) 0)
-    (turnOfReading bank track i voice (readUntil data-limit (channelSource bank track voice) (cursorOf c)))
-    (playing bank (track .periods) (track .presets) (track .release) i voice false 0 c))
-    (record { turned = Turned.Plays; event = offEvent; channel = c; count = 0 })
+    (turnOfReading c (readUntil data-limit (channelSource bank track voice) (cursorOf c)))
+    (record { turned = Turned.Plays; began = false; channel = c; count = 0 }))
+    (record { turned = Turned.Off; began = false; channel = c; count = 0 })
 
 -- the channels gone through in order: those reached, and the answer
 pub record Settled : Type 0 where
@@ -91,25 +83,33 @@ pub record Settled : Type 0 where
 abbrev pub settled : Answer → Settled
 settled answer = record { answer = answer; events = []; counts = []; channels = [] }
 
--- an end met by any channel ends the frame at once, and so does a fault: later channels are not read
-abbrev pub settleBy : ℕ → Turn → Turned → Settled → Settled
-settleBy i t Turned.Plays rest = record {
+-- a channel that goes on, with those after it
+abbrev pub settleOn : Event → Channel → ℕ → Settled → Settled
+settleOn event c count rest = record {
   answer = rest .answer;
-  events = t .event ∷ rest .events;
-  counts = t .count ∷ rest .counts;
-  channels = t .channel ∷ rest .channels;
+  events = event ∷ rest .events;
+  counts = count ∷ rest .counts;
+  channels = c ∷ rest .channels;
 }
-settleBy i t Turned.End rest = record { answer = Answer.End; events = []; counts = t .count ∷ []; channels = [] }
-settleBy i t (Turned.Refused number at) rest =
+
+-- an end met by any channel ends the frame at once, and so does a fault: later channels are not read
+abbrev pub settleBy : List ℕ → Track → ℕ → Voice → Turn → Turned → Settled → Settled
+settleBy bank track i voice t Turned.Off rest = settleOn offEvent (t .channel) (t .count) rest
+settleBy bank track i voice t Turned.Plays rest =
+    settleOn (eventOf bank track i voice (t .channel) (t .began)) (oneOff (t .channel)) (t .count) rest
+settleBy bank track i voice t Turned.End rest =
+    record { answer = Answer.End; events = []; counts = t .count ∷ []; channels = [] }
+settleBy bank track i voice t (Turned.Refused number at) rest =
     record { answer = Answer.Fault number i at; events = []; counts = t .count ∷ []; channels = [] }
 
-abbrev pub settleTurn : ℕ → Turn → Settled → Settled
-settleTurn i t rest = settleBy i t (t .turned) rest
+abbrev pub settleTurn : List ℕ → Track → ℕ → Voice → Turn → Settled → Settled
+settleTurn bank track i voice t rest = settleBy bank track i voice t (t .turned) rest
 
 unfoldable pub settleFrom : List ℕ → Track → ℕ → List Voice → List Channel → Settled
 settleFrom bank track i [] cs = settled Answer.Events
 settleFrom bank track i (v ∷ vs) [] = settled Answer.Events
-settleFrom bank track i (v ∷ vs) (c ∷ cs) = settleTurn i (turnOf bank track i v c) (settleFrom bank track (i + 1) vs cs)
+settleFrom bank track i (v ∷ vs) (c ∷ cs) =
+    settleTurn bank track i v (turnOf bank track v c) (settleFrom bank track (i + 1) vs cs)
 
 -- no events
 abbrev pub silent : Answer → List ℕ → Player → Framed

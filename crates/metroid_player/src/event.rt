@@ -8,10 +8,11 @@ use metroid_format::channel::Frames;
 use metroid_format::channel::QuarterFrames;
 use metroid_format::command::Kind;
 use metroid_format::header;
+use metroid_format::header::Track;
 use metroid_format::header::Voice;
 ghost use mathlib.Core.Path.{_≡_};
 ghost use Prim.Native.Nat.{_-_};
-ghost use Rattle.metroid_player.specs.Event.{offEvent, periodAt, envelopeOf, squareSound, triangleSound, noiseSound, soundOf, eventOf};
+ghost use Rattle.metroid_player.specs.Event.{offEvent, periodAt, envelopeOf, melodicRest, noteCtrl1, melodicNote, noiseSound, soundOf, eventOf};
 
 pub enum Sound {
     Off,
@@ -68,7 +69,7 @@ fn envelope_of(bank: &[u8], voice: Voice) -> &[u8]
     ensures { λ r. ⌜ now r ≡ envelopeOf (now (bank .entry)) voice ⌝ }
 {
     let has = voice.has_envelope;
-    let at = voice.envelope;
+    let at = voice.envelope as usize;
     if has {
         return bank::part(bank, at, header::ENVELOPE_REACH);
     }
@@ -85,35 +86,38 @@ fn index_of(length: u8, left: u8) -> usize
     (length - left) as usize
 }
 
-fn square_sound(bank: &[u8], periods: &[u8], voice: Voice, channel: Channel) -> Sound
-    ensures { λ r. ⌜ r ≡ squareSound (now (bank .entry)) (now (periods .entry)) voice channel ⌝ }
+fn melodic_rest(i: usize) -> Sound
+    ensures { λ r. ⌜ r ≡ melodicRest i ⌝ }
 {
-    let b = channel.sounding;
-    if b == MELODIC_REST {
-        return Sound::SquareRest(ctrl1::SILENT);
-    }
-    let key = b >> 1;
-    let period = period_at(periods, key);
-    let index = index_of(channel.length, channel.left);
-    let ctrl1 = ctrl1::ctrl1_at(voice.default, envelope_of(bank, voice), index);
-    Sound::Square(key, period, ctrl1)
-}
-
-fn triangle_sound(periods: &[u8], release: u8, channel: Channel) -> Sound
-    ensures { λ r. ⌜ r ≡ triangleSound (now (periods .entry)) release channel ⌝ }
-{
-    let b = channel.sounding;
-    if b == MELODIC_REST {
+    if i == TRIANGLE {
         let none = Release::After(QuarterFrames { count: 0 });
         return Sound::TriangleRest(none);
     }
-    let key = b >> 1;
-    let period = period_at(periods, key);
-    let length = Frames {
-        count: channel.length,
-    };
-    let after = release::release_of(release, length);
-    Sound::Triangle(key, period, after)
+    Sound::SquareRest(ctrl1::SILENT)
+}
+
+// Ctrl 1 of a square's note.
+fn note_ctrl1(bank: &[u8], voice: Voice, channel: Channel) -> u8
+    ensures { λ r. ⌜ r ≡ noteCtrl1 (now (bank .entry)) voice channel ⌝ }
+{
+    let index = index_of(channel.length, channel.left);
+    ctrl1::ctrl1_at(voice.default, envelope_of(bank, voice), index)
+}
+
+fn melodic_note(bank: &[u8], track: Track, i: usize, voice: Voice, channel: Channel) -> Sound
+    ensures { λ r. ⌜ r ≡ melodicNote (now (bank .entry)) track i voice channel ⌝ }
+{
+    let key = channel.sounding >> 1;
+    let period = period_at(bank::part(bank, track.periods, bank::PERIODS_SIZE), key);
+    if i == TRIANGLE {
+        let length = Frames {
+            count: channel.length,
+        };
+        let after = release::release_of(track.release, length);
+        return Sound::Triangle(key, period, after);
+    }
+    let ctrl1 = note_ctrl1(bank, voice, channel);
+    Sound::Square(key, period, ctrl1)
 }
 
 fn noise_sound(presets: &[u8], b: u8) -> Sound
@@ -130,31 +134,22 @@ fn noise_sound(presets: &[u8], b: u8) -> Sound
 }
 
 // The sound of the i-th channel, whose record has the frame not yet taken off.
-fn sound_of(
-    bank: &[u8],
-    periods: usize,
-    presets: usize,
-    release: u8,
-    i: usize,
-    voice: Voice,
-    channel: Channel,
-) -> Sound
-    ensures { λ r. ⌜ r ≡ soundOf (now (bank .entry)) periods presets release i voice channel ⌝ }
+fn sound_of(bank: &[u8], track: Track, i: usize, voice: Voice, channel: Channel) -> Sound
+    ensures { λ r. ⌜ r ≡ soundOf (now (bank .entry)) track i voice channel ⌝ }
 {
     let kind = voice.kind;
     match kind {
         Kind::Noise => {
             noise_sound(
-                bank::part(bank, presets, bank::PRESETS_SIZE),
+                bank::part(bank, track.presets, bank::PRESETS_SIZE),
                 channel.sounding,
             )
         }
         Kind::Melodic => {
-            let table = bank::part(bank, periods, bank::PERIODS_SIZE);
-            if i == TRIANGLE {
-                triangle_sound(table, release, channel)
+            if channel.sounding == MELODIC_REST {
+                melodic_rest(i)
             } else {
-                square_sound(bank, table, voice, channel)
+                melodic_note(bank, track, i, voice, channel)
             }
         }
     }
@@ -162,16 +157,14 @@ fn sound_of(
 
 pub fn event_of(
     bank: &[u8],
-    periods: usize,
-    presets: usize,
-    release: u8,
+    track: Track,
     i: usize,
     voice: Voice,
     channel: Channel,
     began: bool,
 ) -> Event
-    ensures { λ r. ⌜ r ≡ eventOf (now (bank .entry)) periods presets release i voice channel began ⌝ }
+    ensures { λ r. ⌜ r ≡ eventOf (now (bank .entry)) track i voice channel began ⌝ }
 {
-    let sound = sound_of(bank, periods, presets, release, i, voice, channel);
+    let sound = sound_of(bank, track, i, voice, channel);
     Event { began, sound }
 }

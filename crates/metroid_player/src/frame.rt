@@ -20,11 +20,13 @@ ghost use Prim.Native.Nat.{_≤_};
 ghost use Rattle.metroid_format.specs.Command.{data-limit};
 ghost use Rattle.metroid_format.specs.Channel.{readUntil};
 ghost use Rattle.metroid_player.specs.Record.{cursorOf, channelFits, channelsFit};
-ghost use Rattle.metroid_player.specs.Frame.{channelSource, begun, oneOff, playing, breaking, turnOfReading, turnOf, silent, settleFrom, framed, frameOfTrack, frameOf, startOf, toldFramed, toldStarted};
+ghost use Rattle.metroid_player.specs.Frame.{channelSource, begun, oneOff, turnOfReading, turnOf, silent, settleFrom, framed, frameOfTrack, frameOf, startOf, toldFramed, toldStarted};
 ghost use Rattle.metroid_format.specs.Number.{Answers};
 
 // What a channel does in a frame.
 enum Turned {
+    // unused
+    Off,
     Plays,
     End,
     // the number of the refusal and the offset of the byte
@@ -33,8 +35,9 @@ enum Turned {
 
 struct Turn {
     pub turned: Turned,
-    pub event: Event,
-    // its record with the frame taken off
+    // a note, in this frame
+    pub began: bool,
+    // its record, with the frame not yet taken off
     pub channel: Channel,
     // commands read
     pub count: u32,
@@ -92,51 +95,13 @@ fn one_off(channel: Channel) -> Channel
     next
 }
 
-// A channel that sounds, whose record has the frame not yet taken off.
-fn play(
-    bank: &[u8],
-    periods: usize,
-    presets: usize,
-    release: u8,
-    i: usize,
-    voice: Voice,
-    began: bool,
-    count: u32,
-    channel: Channel,
-) -> Turn
-    ensures { λ r. ⌜ r ≡ playing (now (bank .entry)) periods presets release i voice began count channel ⌝ }
-{
-    let event = event::event_of(bank, periods, presets, release, i, voice, channel, began);
-    let next = one_off(channel);
-    Turn {
-        turned: Turned::Plays,
-        event,
-        channel: next,
-        count,
-    }
-}
-
-// A channel that ends the frame.
-fn break_off(turned: Turned, count: u32) -> Turn
-    ensures { λ r. ⌜ r ≡ breaking turned count ⌝ }
-{
-    let event = event::off();
-    let channel = record::fresh_channel();
-    Turn {
-        turned,
-        event,
-        channel,
-        count,
-    }
-}
-
 // Reads a channel's part of the bank until a note, the end or a fault.
 fn read_channel(bank: &[u8], track: Track, voice: Voice, channel: Channel) -> Reading
     requires { ⌜ (channel .next ≤ data-limit) × (channel .«loop_start» ≤ data-limit) ⌝ }
     ensures { λ r. ⌜ (r ≡ readUntil data-limit (channelSource (now (bank .entry)) track voice) (cursorOf channel)) × (r .cursor .next ≤ data-limit) × (r .cursor .«loop_start» ≤ data-limit) ⌝ }
 {
     let kind = voice.kind;
-    let at = voice.data;
+    let at = voice.data as usize;
     let table = track.lengths;
     channel::read_until(
         kind,
@@ -148,9 +113,9 @@ fn read_channel(bank: &[u8], track: Track, voice: Voice, channel: Channel) -> Re
 }
 
 // A channel with no frames left reads.
-fn read_turn(bank: &[u8], track: Track, i: usize, voice: Voice, channel: Channel) -> Turn
+fn read_turn(bank: &[u8], track: Track, voice: Voice, channel: Channel) -> Turn
     requires { ⌜ (channel .next ≤ data-limit) × (channel .«loop_start» ≤ data-limit) ⌝ }
-    ensures { λ r. ⌜ r ≡ turnOfReading (now (bank .entry)) track i voice (readUntil data-limit (channelSource (now (bank .entry)) track voice) (cursorOf channel)) ⌝ }
+    ensures { λ r. ⌜ r ≡ turnOfReading channel (readUntil data-limit (channelSource (now (bank .entry)) track voice) (cursorOf channel)) ⌝ }
 {
     let reading = read_channel(bank, track, voice, channel);
     let stop = reading.stop;
@@ -158,49 +123,53 @@ fn read_turn(bank: &[u8], track: Track, i: usize, voice: Voice, channel: Channel
     match stop {
         Stop::Note(b) => {
             let cursor = reading.cursor;
-            play(
-                bank,
-                track.periods,
-                track.presets,
-                track.release,
-                i,
-                voice,
-                true,
+            let begun = begun_channel(cursor, b);
+            Turn {
+                turned: Turned::Plays,
+                began: true,
+                channel: begun,
                 count,
-                begun_channel(cursor, b),
-            )
+            }
         }
-        Stop::End => break_off(Turned::End, count),
-        Stop::Refused(number, at) => break_off(Turned::Refused(number, at), count),
+        Stop::End => {
+            Turn {
+                turned: Turned::End,
+                began: false,
+                channel,
+                count,
+            }
+        }
+        Stop::Refused(number, at) => {
+            Turn {
+                turned: Turned::Refused(number, at),
+                began: false,
+                channel,
+                count,
+            }
+        }
     }
 }
 
-// What the i-th channel does.
-fn take_turn(bank: &[u8], track: Track, i: usize, voice: Voice, channel: Channel) -> Turn
+// What a channel does.
+fn take_turn(bank: &[u8], track: Track, voice: Voice, channel: Channel) -> Turn
     requires { ⌜ channelFits voice channel ≡ true ⌝ }
-    ensures { λ r. ⌜ r ≡ turnOf (now (bank .entry)) track i voice channel ⌝ }
+    ensures { λ r. ⌜ r ≡ turnOf (now (bank .entry)) track voice channel ⌝ }
 {
     let used = voice.used;
     if used {
         if channel.left == 0 {
-            return read_turn(bank, track, i, voice, channel);
+            return read_turn(bank, track, voice, channel);
         }
-        return play(
-            bank,
-            track.periods,
-            track.presets,
-            track.release,
-            i,
-            voice,
-            false,
-            0,
+        return Turn {
+            turned: Turned::Plays,
+            began: false,
             channel,
-        );
+            count: 0,
+        };
     }
-    let event = event::off();
     Turn {
-        turned: Turned::Plays,
-        event,
+        turned: Turned::Off,
+        began: false,
         channel,
         count: 0,
     }
@@ -248,13 +217,20 @@ fn settle(bank: &[u8], track: Track, player: Player) -> Framed
     while i < 4 {
         let voice = track.voices[i];
         let channel = channels[i];
-        let turn = take_turn(bank, track, i, voice, channel);
+        let turn = take_turn(bank, track, voice, channel);
         let turned = turn.turned;
         counts[i] = turn.count;
         match turned {
+            Turned::Off => {
+                let kept = turn.channel;
+                events[i] = off;
+                channels[i] = kept;
+                i += 1;
+            }
             Turned::Plays => {
-                let event = turn.event;
-                let next = turn.channel;
+                let sounding = turn.channel;
+                let event = event::event_of(bank, track, i, voice, sounding, turn.began);
+                let next = one_off(sounding);
                 events[i] = event;
                 channels[i] = next;
                 i += 1;

@@ -57,11 +57,12 @@ module _ (most : ℕ) where
   pub none-most : AtMost most (four 0)
   none-most = (omega arith, (omega arith, (omega arith, (omega arith, tt))))
 
-  settle-by-most : (i : ℕ) (t : Turn) (turned : Turned) (rest : Settled) → t .count ≤ most → AtMost most (rest .counts) →
-      AtMost most (settleBy i t turned rest .counts)
-  settle-by-most i t Turned.Plays rest h a = (h, a)
-  settle-by-most i t Turned.End rest h a = (h, tt)
-  settle-by-most i t (Turned.Refused number at) rest h a = (h, tt)
+  settle-by-most : (bank : List ℕ) (track : Track) (i : ℕ) (v : Voice) (t : Turn) (turned : Turned) (rest : Settled) →
+      t .count ≤ most → AtMost most (rest .counts) → AtMost most (settleBy bank track i v t turned rest .counts)
+  settle-by-most bank track i v t Turned.Off rest h a = (h, a)
+  settle-by-most bank track i v t Turned.Plays rest h a = (h, a)
+  settle-by-most bank track i v t Turned.End rest h a = (h, tt)
+  settle-by-most bank track i v t (Turned.Refused number at) rest h a = (h, tt)
 
   framed-most : (track : Track) (player : Player) (s : Settled) (answer : Answer) → AtMost most (s .counts) →
       AtMost most (framedBy track player s answer .counts)
@@ -75,22 +76,21 @@ pub source-within : (bank : List ℕ) (track : Track) (voice : Voice) → length
 source-within bank track voice = rw length-take (omega arith)
 
 module _ (bank : List ℕ) (track : Track) (extra : ℕ) (one : extra ≤ 1) where
-  turn-by-count : (i : ℕ) (voice : Voice) (cursor : Cursor) (count : ℕ) (stop : Stop) →
-      turnBy bank track i voice cursor count stop .count ≡ count
-  turn-by-count i voice cursor count (Stop.Note b) = refl
-  turn-by-count i voice cursor count Stop.End = refl
-  turn-by-count i voice cursor count (Stop.Refused number at) = refl
+  turn-by-count : (channel : Channel) (cursor : Cursor) (count : ℕ) (stop : Stop) → turnBy channel cursor count stop .count ≡ count
+  turn-by-count channel cursor count (Stop.Note b) = refl
+  turn-by-count channel cursor count Stop.End = refl
+  turn-by-count channel cursor count (Stop.Refused number at) = refl
 
-  turn-count : (i : ℕ) (voice : Voice) (channel : Channel) → (voice .used ≡ true → Placed data-limit extra (cursorOf channel)) →
-      turnOf bank track i voice channel .count ≤ most-commands + extra
+  turn-count : (voice : Voice) (channel : Channel) → (voice .used ≡ true → Placed data-limit extra (cursorOf channel)) →
+      turnOf bank track voice channel .count ≤ most-commands + extra
   unfolding turnOf
-  turn-count i voice channel p =
+  turn-count voice channel p =
       by-test Small (voice .used)
       (λ u.
       by-test Small (eqb (channel .left) 0)
       (λ _.
       let reading = readUntil data-limit (channelSource bank track voice) (cursorOf channel) in
-      rw (turn-by-count i voice (reading .cursor) (reading .count) (reading .stop))
+      rw (turn-by-count channel (reading .cursor) (reading .count) (reading .stop))
       (count-bound (channelSource bank track voice) pairs extra (source-within bank track voice)
       (cursorOf channel) one (p u))) λ _.
       omega arith) λ _.
@@ -105,7 +105,7 @@ module _ (bank : List ℕ) (track : Track) (extra : ℕ) (one : extra ≤ 1) whe
   settle-counts i [] cs p = tt
   settle-counts i (v ∷ vs) [] p = tt
   settle-counts i (v ∷ vs) (c ∷ cs) (p, ps) =
-      settle-by-most (most-commands + extra) i _ (turnOf bank track i v c .turned) _ (turn-count i v c p)
+      settle-by-most (most-commands + extra) bank track i v _ (turnOf bank track v c .turned) _ (turn-count v c p)
       (settle-counts (i + 1) vs cs ps)
 
   -- every count of a frame, by what holds of a record that passes 16

@@ -22,8 +22,8 @@ use Rattle.metroid_format.specs.declared.channel.Reading.{Reading}
 use Rattle.metroid_format.proofs.Picks.{by-test, false-true, pick-true, pick-false, pick-eq, pick-ne}
 use Rattle.metroid_format.proofs.channel.ReadBound.{Placed, reads, reads-placed}
 use Rattle.metroid_player.specs.Record.{four, endedPlayer, cursorOf, channelFits, channelsFit}
-use Rattle.metroid_player.specs.Event.{offEvent}
-use Rattle.metroid_player.specs.Frame.{channelSource, begun, turnBy, oneOff, playing, breaking, turnOfReading, turnOf, Settled, settled, settleBy, settleTurn, settleFrom, silent, framed}
+use Rattle.metroid_player.specs.Event.{offEvent, eventOf}
+use Rattle.metroid_player.specs.Frame.{channelSource, begun, turnBy, oneOff, turnOfReading, turnOf, Settled, settled, settleOn, settleBy, settleTurn, settleFrom, silent, framed}
 use Rattle.metroid_player.specs.declared.record.Channel.{Channel}
 use Rattle.metroid_player.specs.declared.event.Event.{Event}
 use Rattle.metroid_player.specs.declared.frame.Turned.{Turned}
@@ -101,7 +101,16 @@ pub reading-is : (bank : List ℕ) (track : Track) (v : Voice) (c : Channel)
     → r ≡ readUntil data-limit (channelSource bank track v) (cursorOf c)
 reading-is bank track v c bytes d lengths l cursor k r a = a .same ∙ rw (d, l, k)
 
-module _ (bank : List ℕ) (track : Track) (i : ℕ) (v : Voice) (c : Channel) where
+-- r is what `read_channel` answers
+module _ (c : Channel) (r q : Reading) (e : r ≡ q) where
+  pub turn-read : (stop : Stop) → r .stop ≡ stop → turnBy c (r .cursor) (r .count) stop ≡ turnOfReading c q
+  turn-read stop s = rw (← e) (ap (turnBy c (r .cursor) (r .count)) (sym s))
+
+  pub turn-begun : (b : ℕ) → r .stop ≡ Stop.Note b → (begins : Channel) → begins ≡ begun (r .cursor) b
+      → record { turned = Turned.Plays; began = true; channel = begins; count = r .count } ≡ turnOfReading c q
+  turn-begun b s begins f = rw f (turn-read (Stop.Note b) s)
+
+module _ (bank : List ℕ) (track : Track) (v : Voice) (c : Channel) where
   -- from a record that passes 16 the offsets stay within the limit
   pub stays-within : (r : Reading) → r ≡ readUntil data-limit (channelSource bank track v) (cursorOf c) → (c .next ≤ data-limit) × (c .«loop_start» ≤ data-limit) → c .counter < 256
       → (r .cursor .next ≤ data-limit) × (r .cursor .«loop_start» ≤ data-limit)
@@ -112,32 +121,18 @@ module _ (bank : List ℕ) (track : Track) (i : ℕ) (v : Voice) (c : Channel) w
       let q = reads-placed s data-limit 1 w (reads s 128 1 w (cursorOf c) (omega arith) p) p in
       rw e (q .next-within, q .start-within)
 
-  module _ (r : Reading) (e : r ≡ readUntil data-limit (channelSource bank track v) (cursorOf c)) where
-    pub turn-note : (b : ℕ) → r .stop ≡ Stop.Note b → (begins : Channel) → begins ≡ begun (r .cursor) b → (t : Turn) → t ≡ playing bank (track .periods) (track .presets) (track .release) i v true (r .count) begins
-        → t ≡ turnOfReading bank track i v (readUntil data-limit (channelSource bank track v) (cursorOf c))
-    turn-note b s begins f t g = rw (← e) (g ∙ ap (λ (x : Channel). playing bank (track .periods) (track .presets) (track .release) i v true (r .count) x) f ∙ ap (turnBy bank track i v (r .cursor) (r .count)) (sym s))
-
-    pub turn-end : r .stop ≡ Stop.End → (t : Turn) → t ≡ breaking Turned.End (r .count)
-        → t ≡ turnOfReading bank track i v (readUntil data-limit (channelSource bank track v) (cursorOf c))
-    turn-end s t g = rw (← e) (g ∙ ap (turnBy bank track i v (r .cursor) (r .count)) (sym s))
-
-    pub turn-refused : (number at : ℕ) → r .stop ≡ Stop.Refused number at
-        → (t : Turn) → t ≡ breaking (Turned.Refused number at) (r .count) → t ≡ turnOfReading bank track i v (readUntil data-limit (channelSource bank track v) (cursorOf c))
-    turn-refused number at s t g = rw (← e) (g ∙ ap (turnBy bank track i v (r .cursor) (r .count)) (sym s))
-
--- a voice by its use and the frames left
-module _ (bank : List ℕ) (track : Track) (i : ℕ) (v : Voice) (c : Channel) where
-  pub turn-reading : (t : Turn) → v .used ≡ true → c .left ≡ 0 → t ≡ turnOfReading bank track i v (readUntil data-limit (channelSource bank track v) (cursorOf c)) → t ≡ turnOf bank track i v c
+  -- by its use and the frames left
+  pub turn-reading : (t : Turn) → v .used ≡ true → c .left ≡ 0 → t ≡ turnOfReading c (readUntil data-limit (channelSource bank track v) (cursorOf c)) → t ≡ turnOf bank track v c
   unfolding turnOf
   turn-reading t u z e = pick-true _ _ _ t u (pick-eq _ _ _ _ t z e)
 
-  pub turn-sounding : (t : Turn) → v .used ≡ true → (c .left ≡ 0 → ⊥) → t ≡ playing bank (track .periods) (track .presets) (track .release) i v false 0 c → t ≡ turnOf bank track i v c
+  pub turn-sounding : v .used ≡ true → (c .left ≡ 0 → ⊥) → record { turned = Turned.Plays; began = false; channel = c; count = 0 } ≡ turnOf bank track v c
   unfolding turnOf
-  turn-sounding t u z e = pick-true _ _ _ t u (pick-ne _ _ _ _ t z e)
+  turn-sounding u z = pick-true _ _ _ _ u (pick-ne _ _ _ _ _ z refl)
 
-  pub turn-off : (e : Event) → v .used ≡ false → e ≡ offEvent → record { turned = Turned.Plays; event = e; channel = c; count = 0 } ≡ turnOf bank track i v c
+  pub turn-off : v .used ≡ false → record { turned = Turned.Off; began = false; channel = c; count = 0 } ≡ turnOf bank track v c
   unfolding turnOf
-  turn-off e u f = pick-false _ _ _ _ u (rw f)
+  turn-off u = pick-false _ _ _ _ u refl
 
 -- the channels from the i-th on, with what the ones before have left in the three arrays
 module _ (bank : List ℕ) (track : Track) (player : Player) where
@@ -231,32 +226,39 @@ module _ (bank : List ℕ) (track : Track) (player : Player) where
       pub turn-fits : channelFits voice channel ≡ true
       turn-fits = both-fit .0
 
-      settled-next : settledFrom i ≡ settleTurn i (turnOf bank track i voice channel) (settledFrom (i + 1))
+      settled-next : settledFrom i ≡ settleTurn bank track i voice (turnOf bank track voice channel) (settledFrom (i + 1))
       unfolding settleFrom
       settled-next = rw (voices-next, channels-next)
 
       -- t is what `take_turn` answers
-      module _ (t : Turn) (q : t ≡ turnOf bank track i voice channel) where
-        settled-by : (x : Turned) → t .turned ≡ x → settledFrom i ≡ settleBy i t x (settledFrom (i + 1))
-        settled-by x e = settled-next ∙ rw (← q) (ap (λ (y : Turned). settleBy i t y (settledFrom (i + 1))) e)
+      module _ (t : Turn) (q : t ≡ turnOf bank track voice channel) where
+        settled-by : (x : Turned) → t .turned ≡ x → settledFrom i ≡ settleBy bank track i voice t x (settledFrom (i + 1))
+        settled-by x e = settled-next ∙ rw (← q) (ap (λ (y : Turned). settleBy bank track i voice t y (settledFrom (i + 1))) e)
 
-        pub settling-more : t .turned ≡ Turned.Plays
-            → Settling (set events i (t .event)) (set counts i (t .count)) (set channels i (t .channel)) (i + 1)
-        settling-more e =
-            let s = settled-by _ e in
-            record {
-              within = omega arith;
-              voices-four = m .voices-four;
-              events-four = length-set events i (t .event) ∙ m .events-four;
-              counts-four = length-set counts i (t .count) ∙ m .counts-four;
-              channels-four = length-set channels i (t .channel) ∙ m .channels-four;
-              rest-given = drop-set-lt (i + 1) channels i (t .channel) (omega arith) ∙ given-next;
-              rest-fits = both-fit .1;
-              same-answer = m .same-answer ∙ rw s;
-              same-events = m .same-events ∙ rw (s, add-one i);
-              same-counts = m .same-counts ∙ rw (s, add-one i);
-              same-channels = m .same-channels ∙ rw (s, add-one i);
-            }
+        settling-on : (event : Event) (next : Channel) → settledFrom i ≡ settleOn event next (t .count) (settledFrom (i + 1))
+            → Settling (set events i event) (set counts i (t .count)) (set channels i next) (i + 1)
+        settling-on event next s = record {
+          within = omega arith;
+          voices-four = m .voices-four;
+          events-four = length-set events i event ∙ m .events-four;
+          counts-four = length-set counts i (t .count) ∙ m .counts-four;
+          channels-four = length-set channels i next ∙ m .channels-four;
+          rest-given = drop-set-lt (i + 1) channels i next (omega arith) ∙ given-next;
+          rest-fits = both-fit .1;
+          same-answer = m .same-answer ∙ rw s;
+          same-events = m .same-events ∙ rw (s, add-one i);
+          same-counts = m .same-counts ∙ rw (s, add-one i);
+          same-channels = m .same-channels ∙ rw (s, add-one i);
+        }
+
+        pub settling-off : t .turned ≡ Turned.Off → (event : Event) → event ≡ offEvent
+            → Settling (set events i event) (set counts i (t .count)) (set channels i (t .channel)) (i + 1)
+        settling-off e event f = settling-on event (t .channel) (settled-by _ e ∙ rw f)
+
+        pub settling-plays : t .turned ≡ Turned.Plays → (event : Event) → event ≡ eventOf bank track i voice (t .channel) (t .began)
+            → (next : Channel) → next ≡ oneOff (t .channel)
+            → Settling (set events i event) (set counts i (t .count)) (set channels i next) (i + 1)
+        settling-plays e event f next g = settling-on event next (settled-by _ e ∙ rw (f, g))
 
         pub settles-end : t .turned ≡ Turned.End → (ended : Player) → ended ≡ endedPlayer (track .restart)
             → (f : Framed) → f ≡ silent Answer.End (set counts i (t .count)) ended → f ≡ framed track player whole

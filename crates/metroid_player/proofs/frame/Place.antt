@@ -30,33 +30,35 @@ use Rattle.metroid_player.proofs.frame.Counts.{source-within}
 use Rattle.metroid_player.proofs.frame.Laws.{next-fits, start-fits}
 
 abbrev TurnWithin : Turned → Type 0
+TurnWithin Turned.Off = Unit {0}
 TurnWithin Turned.Plays = Unit {0}
 TurnWithin Turned.End = Unit {0}
 TurnWithin (Turned.Refused number at) = at ≤ data-limit
 
 module _ (bank : List ℕ) (track : Track) where
-  by-stop : (i : ℕ) (v : Voice) (cursor : Cursor) (count : ℕ) (stop : Stop) → StopWithin data-limit stop → TurnWithin (turnBy bank track i v cursor count stop .turned)
-  by-stop i v cursor count (Stop.Note b) h = tt
-  by-stop i v cursor count Stop.End h = tt
-  by-stop i v cursor count (Stop.Refused number at) h = h
+  by-stop : (c : Channel) (cursor : Cursor) (count : ℕ) (stop : Stop) → StopWithin data-limit stop → TurnWithin (turnBy c cursor count stop .turned)
+  by-stop c cursor count (Stop.Note b) h = tt
+  by-stop c cursor count Stop.End h = tt
+  by-stop c cursor count (Stop.Refused number at) h = h
 
-  turn-within : (i : ℕ) (v : Voice) (c : Channel) → channelFits v c ≡ true → TurnWithin (turnOf bank track i v c .turned)
+  turn-within : (v : Voice) (c : Channel) → channelFits v c ≡ true → TurnWithin (turnOf bank track v c .turned)
   unfolding turnOf
-  turn-within i v c f =
+  turn-within v c f =
       by-test (λ (t : Turn). TurnWithin (t .turned)) (v .used)
       (λ u.
       by-test (λ (t : Turn). TurnWithin (t .turned)) (eqb (c .left) 0)
       (λ _.
-      by-stop i v _ _ (readUntil data-limit (channelSource bank track v) (cursorOf c) .stop)
+      by-stop c _ _ (readUntil data-limit (channelSource bank track v) (cursorOf c) .stop)
       (until-within (channelSource bank track v) data-limit (source-within bank track v) (cursorOf c) (next-fits v c u f) (start-fits v c u f))) λ _.
       tt) λ _.
       tt
 
-  by-turned : (n i : ℕ) (t : Turn) (turned : Turned) (rest : Settled) → i < n → TurnWithin turned → Placed n (rest .answer) →
-      Placed n (settleBy i t turned rest .answer)
-  by-turned n i t Turned.Plays rest h w b = b
-  by-turned n i t Turned.End rest h w b = tt
-  by-turned n i t (Turned.Refused number at) rest h w b = (h, w)
+  by-turned : (n i : ℕ) (v : Voice) (t : Turn) (turned : Turned) (rest : Settled) → i < n → TurnWithin turned → Placed n (rest .answer) →
+      Placed n (settleBy bank track i v t turned rest .answer)
+  by-turned n i v t Turned.Off rest h w b = b
+  by-turned n i v t Turned.Plays rest h w b = b
+  by-turned n i v t Turned.End rest h w b = tt
+  by-turned n i v t (Turned.Refused number at) rest h w b = (h, w)
 
   settle-placed : (n i : ℕ) (vs : List Voice) (cs : List Channel) → n ≡ i + length vs → channelsFit vs cs ≡ true →
       Placed n (settleFrom bank track i vs cs .answer)
@@ -66,7 +68,7 @@ module _ (bank : List ℕ) (track : Track) where
   settle-placed n i (v ∷ vs) (c ∷ cs) e f =
       by-test (λ b. b ≡ true → Placed n (settleFrom bank track i (v ∷ vs) (c ∷ cs) .answer)) (channelFits v c)
       (λ h rest.
-      by-turned n i _ (turnOf bank track i v c .turned) _ (omega arith) (turn-within i v c h)
+      by-turned n i v _ (turnOf bank track v c .turned) _ (omega arith) (turn-within v c h)
       (settle-placed n (i + 1) vs cs (omega arith) rest))
       (λ _ z. absurd (false-true z)) f
 

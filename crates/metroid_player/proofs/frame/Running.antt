@@ -23,12 +23,11 @@ use Rattle.metroid_format.specs.declared.channel.Step.{Step}
 use Rattle.metroid_format.specs.declared.channel.Stop.{Stop}
 use Rattle.metroid_format.specs.declared.channel.Reading.{Reading}
 use Rattle.metroid_player.proofs.frame.Counts.{source-within}
+use Rattle.metroid_player.proofs.frame.Laws.{turn-off}
 use Rattle.metroid_player.specs.Record.{cursorOf, soundFits, channelFits}
-use Rattle.metroid_player.specs.Event.{offEvent}
 use Rattle.metroid_player.specs.Counts.{pairs}
-use Rattle.metroid_player.specs.Frame.{channelSource, begun, oneOff, playing, breaking, turnBy, turnOf}
+use Rattle.metroid_player.specs.Frame.{channelSource, begun, oneOff, turnBy, turnOf}
 use Rattle.metroid_player.specs.declared.record.Channel.{Channel}
-use Rattle.metroid_player.specs.declared.event.Event.{Event}
 use Rattle.metroid_player.specs.declared.frame.Turned.{Turned}
 use Rattle.metroid_player.specs.declared.frame.Turn.{Turn}
 
@@ -56,10 +55,9 @@ unused-fits voice channel u = sym (pick-false (voice .used) _ _ _ u refl)
 
 module _ (bank : List ℕ) (track : Track) where
   -- an unused channel is off and stays as it is
-  pub turn-unused : (i : ℕ) (voice : Voice) (channel : Channel) → voice .used ≡ false →
-      turnOf bank track i voice channel ≡ record { turned = Turned.Plays; event = offEvent; channel = channel; count = 0 }
-  unfolding turnOf
-  turn-unused i voice channel u = sym (pick-false (voice .used) _ _ _ u refl)
+  pub turn-unused : (voice : Voice) (channel : Channel) → voice .used ≡ false →
+      turnOf bank track voice channel ≡ record { turned = Turned.Off; began = false; channel = channel; count = 0 }
+  turn-unused voice channel u = sym (turn-off bank track voice channel u)
 
   -- left to itself the channel stops in n frames: those left of its note, then those of its walk
   pub record Running (voice : Voice) (channel : Channel) (n : ℕ) (finish : Finish) : Type 0 where
@@ -85,24 +83,26 @@ module _ (bank : List ℕ) (track : Track) where
 
   -- what the turn of a used channel is, n frames before its stop
   pub data Turns (voice : Voice) : ℕ → Finish → Turn → Type 0 where
-    plays : {event : Event} {channel : Channel} {count n : ℕ} {finish : Finish} → Running voice channel n finish →
-        Turns voice (suc n) finish (record { turned = Turned.Plays; event = event; channel = channel; count = count })
-    ends : {count : ℕ} → 0 < count → Turns voice 0 Finish.End (breaking Turned.End count)
-    faults : {number at count : ℕ} →
-        Turns voice 0 (Finish.Refused number at) (breaking (Turned.Refused number at) count)
+    plays : {began : Bool} {channel : Channel} {count n : ℕ} {finish : Finish} → Running voice (oneOff channel) n finish →
+        Turns voice (suc n) finish (record { turned = Turned.Plays; began = began; channel = channel; count = count })
+    ends : {channel : Channel} {count : ℕ} → 0 < count →
+        Turns voice 0 Finish.End (record { turned = Turned.End; began = false; channel = channel; count = count })
+    faults : {channel : Channel} {number at count : ℕ} →
+        Turns voice 0 (Finish.Refused number at)
+        (record { turned = Turned.Refused number at; began = false; channel = channel; count = count })
 
-  module _ (i : ℕ) (voice : Voice) where
+  module _ (voice : Voice) where
     within : length (channelSource bank track voice .bytes) ≤ 2 * pairs
     within = source-within bank track voice
 
     -- a note that sounds, with a frame taken off
     plays-on : (began : Bool) (count : ℕ) (channel : Channel) {n : ℕ} {finish : Finish} → 0 < channel .left → Running voice channel n finish →
-        Turns voice n finish (playing bank (track .periods) (track .presets) (track .release) i voice began count channel)
+        Turns voice n finish (record { turned = Turned.Plays; began = began; channel = channel; count = count })
     plays-on began count channel {n} h r =
         let one : n ≡ suc (channel .left - 1 + r .walking) = omega (arith, r .frames) in
         let (l, s) = r .sounds h in
         rw one
-        (plays {channel = oneOff channel}
+        (plays {channel = channel}
         (record {
           walking = r .walking;
           frames = refl;
@@ -111,18 +111,18 @@ module _ (bank : List ℕ) (track : Track) where
           sounds = λ _. (omega arith, s);
         }))
 
-    turn-by : (cursor : Cursor) (count : ℕ) (stop : Stop) {n : ℕ} {finish : Finish} →
+    turn-by : (channel : Channel) (cursor : Cursor) (count : ℕ) (stop : Stop) {n : ℕ} {finish : Finish} →
         StopHolds (channelSource bank track voice) cursor count stop → Placed data-limit 0 cursor →
         WalkAfter (channelSource bank track voice) cursor stop n finish →
-        Turns voice n finish (turnBy bank track i voice cursor count stop)
-    turn-by cursor count (Stop.Note b) (l, s) p (walking, e, w) =
+        Turns voice n finish (turnBy channel cursor count stop)
+    turn-by channel cursor count (Stop.Note b) (l, s) p (walking, e, w) =
         plays-on true count (begun cursor b) l
         (record { walking = walking; frames = e; walk = w; placed = p; sounds = λ _. (omega arith, s) })
-    turn-by cursor count Stop.End h p (e, f) = rw (e, f) (ends h)
-    turn-by cursor count (Stop.Refused number at) h p (e, f) = rw (e, f) faults
+    turn-by channel cursor count Stop.End h p (e, f) = rw (e, f) (ends h)
+    turn-by channel cursor count (Stop.Refused number at) h p (e, f) = rw (e, f) faults
 
     pub turns : {channel : Channel} {n : ℕ} {finish : Finish} → voice .used ≡ true → Running voice channel n finish →
-        Turns voice n finish (turnOf bank track i voice channel)
+        Turns voice n finish (turnOf bank track voice channel)
     unfolding turnOf
     turns {channel} {n} {finish} u r =
         by-test (Turns voice n finish) (voice .used)
@@ -134,7 +134,7 @@ module _ (bank : List ℕ) (track : Track) where
         let reading = readUntil data-limit (channelSource bank track voice) (cursorOf channel) in
         let read = reads (channelSource bank track voice) pairs 0 within (cursorOf channel) (omega arith) (r .placed) in
         rw all
-        (turn-by (reading .cursor) (reading .count) (reading .stop) (stop-holds read)
+        (turn-by channel (reading .cursor) (reading .count) (reading .stop) (stop-holds read)
         (reads-placed (channelSource bank track voice) data-limit 0 within read (r .placed))
         (read-walk read (r .walk)))) λ z.
         let some : channel .left ≡ 0 → ⊥ = eqb-false _ _ z in

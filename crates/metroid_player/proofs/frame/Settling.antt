@@ -10,7 +10,6 @@ use Rattle.metroid_format.specs.declared.header.Voice.{Voice}
 use Rattle.metroid_format.specs.declared.header.Track.{Track}
 use Rattle.metroid_format.specs.declared.command.Finish.{Finish}
 use Rattle.metroid_player.specs.Record.{channelsFit}
-use Rattle.metroid_player.specs.Event.{offEvent}
 use Rattle.metroid_player.specs.Frame.{Settled, settleTurn, settleFrom}
 use Rattle.metroid_player.specs.declared.record.Channel.{Channel}
 use Rattle.metroid_player.specs.declared.event.Event.{Event}
@@ -88,13 +87,13 @@ module _ (bank : List ℕ) (track : Track) where
 
   module _ (i : ℕ) {voices : List Voice} {now : List Ahead} where
     settle-unused : {v : Voice} {channel : Channel} (rest : Settled) → v .used ≡ false → Settles (i + 1) voices now rest →
-        Settles i (v ∷ voices) (nothing ∷ now) (settleTurn i (record { turned = Turned.Plays; event = offEvent; channel = channel; count = 0 }) rest)
+        Settles i (v ∷ voices) (nothing ∷ now) (settleTurn bank track i v (record { turned = Turned.Off; began = false; channel = channel; count = 0 }) rest)
     settle-unused _ u (events d r) = events (Nearer.unused d) (AllRunning.unused u r)
     settle-unused _ u (ends d c) = ends (Due.unused d) (more c)
     settle-unused _ u (faults {channel} d e) = faults {channel = channel} (Due.unused d) (omega arith)
 
     settle-used : {v : Voice} {n : ℕ} {finish : Finish} (t : Turn) (rest : Settled) → v .used ≡ true → Turns bank track v n finish t →
-        Settles (i + 1) voices now rest → Settles i (v ∷ voices) (stop n finish ∷ now) (settleTurn i t rest)
+        Settles (i + 1) voices now rest → Settles i (v ∷ voices) (stop n finish ∷ now) (settleTurn bank track i v t rest)
     settle-used _ _ u (Turns.plays r) (events d rs) = events (Nearer.used d) (AllRunning.used u r rs)
     settle-used _ _ u (Turns.plays r) (ends d c) = ends (Due.used d) (more c)
     settle-used _ _ u (Turns.plays r) (faults {channel} d e) = faults {channel = channel} (Due.used d) (omega arith)
@@ -105,5 +104,5 @@ module _ (bank : List ℕ) (track : Track) where
       Settles i voices now (settleFrom bank track i voices channels)
   unfolding settleFrom
   settles i none = events Nearer.none AllRunning.none
-  settles i (unused {v} {c} u rs) = rw (turn-unused bank track i v c u) (settle-unused i _ u (settles (i + 1) rs))
-  settles i (used {v} u r rs) = settle-used i _ _ u (turns bank track i v u r) (settles (i + 1) rs)
+  settles i (unused {v} {c} u rs) = rw (turn-unused bank track v c u) (settle-unused i _ u (settles (i + 1) rs))
+  settles i (used {v} u r rs) = settle-used i _ _ u (turns bank track v u r) (settles (i + 1) rs)

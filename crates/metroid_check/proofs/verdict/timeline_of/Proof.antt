@@ -10,6 +10,7 @@ pub timeline-of-spec : {M : Type 1} → statement M
 timeline-of-spec =
     tie.close
     (tie.spec
+    (λ c. search needs)
     (λ c κs. search needs)
     (λ c κs. search needs)
     (λ c κs. search needs)

@@ -9,6 +9,7 @@ unfolding envelopeOf
 envelope-of-spec =
     tie.close
     (tie.spec
+    (λ c. search needs)
     (λ c κs. search needs)
     (λ c. search (picks, needs) depth 12)
     (λ c κs. search needs)

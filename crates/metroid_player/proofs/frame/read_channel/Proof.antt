@@ -9,12 +9,13 @@ pub read-channel-spec : {M : Type 1} → statement M
 read-channel-spec =
     tie.close
     (tie.spec
+    (λ c. search needs)
     (λ c κs. search needs)
     (λ c κs. search needs)
     (λ c κs. search needs)
     (λ c κs. search needs)
     (λ c.
-    let a = c .before .before .before .before .before .args in
+    let a = c .before .before .before .before .before .before .args in
     let e = reading-is (now (a .bank)) (a .track) (a .voice) (a .channel) _ (c .before .before .before .part .ensures) _ (c .before .before .part2 .ensures) _ (c .before .cursor-of .ensures) _ (c .read-until .ensures) in
-    let s = stays-within (now (a .bank)) (a .track) 0 (a .voice) (a .channel) _ e (c .before .before .before .before .before .pre) (omega (arith, c .before .before .before .before .before .good .1 .1 .1 .0)) in
+    let s = stays-within (now (a .bank)) (a .track) (a .voice) (a .channel) _ e (c .before .before .before .before .before .before .pre) (omega (arith, c .before .before .before .before .before .before .good .1 .1 .1 .0)) in
     (e, s .0, s .1)))

@@ -1,5 +1,5 @@
 use borrow.Author.Needs.{needs}
-use Rattle.metroid_player.proofs.frame.Laws.{turn-note, turn-end, turn-refused}
+use Rattle.metroid_player.proofs.frame.Laws.{turn-read, turn-begun}
 use Rattle.metroid_player.proofs.frame.read_turn.Statement.{statement}
 use Rattle.metroid_player.proofs.frame.read_turn.Tie as tie
 
@@ -10,11 +10,10 @@ read-turn-spec =
     (λ c κs. search needs)
     (λ c. search needs)
     (λ c κs. search needs)
-    (λ c κs. search needs)
     (λ c. search needs)
-    (λ c κs. search needs)
     (λ c. search needs)
-    (λ c κs. search needs)
-    (λ c. search (turn-note, needs) depth 10)
-    (λ c. search (turn-end, needs) depth 10)
-    (λ c. search (turn-refused, needs) depth 10))
+    (λ c.
+    turn-begun (c .before .before .before .before .before .before .before .args .channel) _ _ (c .before .before .before .before .before .read-channel .ensures .0)
+    _ (c .before .before .before .stop .given .1) _ (c .begun-channel .ensures))
+    (λ c. turn-read _ _ _ (c .before .before .read-channel .ensures .0) _ (c .enum-told .given .1))
+    (λ c. turn-read _ _ _ (c .before .before .before .read-channel .ensures .0) _ (c .before .stop2 .given .1)))

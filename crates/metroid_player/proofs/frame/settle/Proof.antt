@@ -3,15 +3,15 @@ use native.Mathlib.Omega.{arith}
 use borrow.Author.Needs.{needs}
 use lib.ListN.{length-map}
 use denote.Ref.{now}
-use Rattle.metroid_player.proofs.frame.Laws.{Settling, settling-none, settling-more, settles-events, settles-end, settles-fault, turn-fits}
+use Rattle.metroid_player.proofs.frame.Laws.{Settling, settling-none, settling-off, settling-plays, settles-events, settles-end, settles-fault, turn-fits}
 use Rattle.metroid_player.proofs.frame.settle.Statement.{statement}
 use Rattle.metroid_player.proofs.frame.settle.Tie as tie
 
 abbrev Inv-loop : tie.InvT-loop
-Inv-loop bank player track channels₀ events₀ counts₀ i₀ channels events counts i = Settling bank track player events counts channels i
+Inv-loop bank player track channels₀ off events₀ counts₀ i₀ channels events counts i = Settling bank track player events counts channels i
 
 abbrev μ-loop : tie.MeasureT-loop
-μ-loop bank player track channels₀ events₀ counts₀ i₀ channels events counts i = 4 - i
+μ-loop bank player track channels₀ off events₀ counts₀ i₀ channels events counts i = 4 - i
 
 pub settle-spec : {M : Type 1} → statement M
 settle-spec =
@@ -40,15 +40,29 @@ settle-spec =
     (λ c. omega arith)
     (λ c. omega arith)
     (λ c.
-    let l = c .before .before .before .before .before .before .before in
-    settling-more _ _ _ _ _ _ _ (l .before .loop .inv) (l .loop-test .taken) _ _ _ (c .before .before .before .before .take-turn .ensures) (c .before .before .enum-told .given .1))
+    let l = c .before .before .before .before .before .before in
+    settling-off _ _ _ _ _ _ _ (l .before .loop .inv) (l .loop-test .taken) _ _ _ (c .before .before .before .take-turn .ensures)
+    (c .before .enum-told .given .1) _ (l .before .before .off .ensures))
+    (λ c. search needs)
+    (λ c κs. search needs)
+    (λ c κs. search needs)
+    (λ c. omega arith)
+    (λ c. omega arith)
+    (λ c. omega arith)
+    (λ c. omega arith)
+    (λ c. omega arith)
+    (λ c. omega arith)
+    (λ c.
+    let l = c .before .before .before .before .before .before .before .before in
+    settling-plays _ _ _ _ _ _ _ (l .before .loop .inv) (l .loop-test .taken) _ _ _ (c .before .before .before .before .before .take-turn .ensures)
+    (c .before .before .before .enum-told2 .given .1) _ (c .before .event-of .ensures) _ (c .one-off .ensures))
     (λ c. search needs)
     (λ c κs. search needs)
     (λ c κs. search needs)
     (λ c.
     let l = c .before .before .before .before .before .before .before in
     settles-end _ _ _ _ _ _ _ (l .before .loop .inv) (l .loop-test .taken) _ _ _ (c .before .before .before .before .take-turn .ensures)
-    (c .before .before .enum-told2 .given .1) _ (c .before .ended .ensures) _ (c .without-events .ensures))
+    (c .before .before .enum-told3 .given .1) _ (c .before .ended .ensures) _ (c .without-events .ensures))
     (λ c. search needs)
     (λ c κs. search needs)
     (λ c.

@@ -9,7 +9,5 @@ take-turn-spec =
     (tie.spec
     (λ c κs. (search (next-fits, needs) depth 8, search (start-fits, needs) depth 8))
     (λ c. search (turn-reading, needs) depth 8)
-    (λ c κs. search needs)
     (λ c. search (turn-sounding, needs) depth 8)
-    (λ c κs. search needs)
     (λ c. search (turn-off, needs) depth 8))
