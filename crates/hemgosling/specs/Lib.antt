@@ -1,4 +1,5 @@
 pub mod Places
+pub mod Tell
 pub mod Judge
 pub mod Play
 pub mod Words

@@ -1,25 +1,25 @@
--- What reading and writing of words owe a host: the number, the buffer, and the count or offset as far as it fits.
+-- What reading and writing of words owe a host.
 use Prim.Native.Nat.{ℕ}
 use mathlib.Core.List.{List}
 use mathlib.Core.Path.{_≡_}
 use lib.Dec.{eqb}
 use lib.ListN.{length}
-use lib.Seq.{sets}
 use Rattle.metroid_format.specs.Pick.{pick}
 use Rattle.metroid_format.specs.Command.{data-limit}
 use Rattle.metroid_format.specs.Words.{readWords, wordsLeft, toldReading, writeWords, bytesLeft, toldWriting}
 use Rattle.metroid_format.specs.declared.command.Kind.{Kind}
 use Rattle.metroid_format.specs.declared.command.Kind.the-variants.{Melodic, Noise}
+use Rattle.hemgosling.specs.Tell.{Tells}
 
 abbrev pub kindOf : ℕ → Kind
 kindOf noise = pick (eqb noise 0) Melodic Noise
 
-pub record ReadsInto (kind : Kind) (bytes words told : List ℕ) (number : ℕ) (words′ told′ : List ℕ) : Type 0 where
-  pub says : number ≡ toldReading (readWords data-limit kind bytes (length words)) .number
+-- the answer told, and the buffer of words
+pub record ReadsInto (kind : Kind) (bytes words before : List ℕ) (number : ℕ) (words′ after : List ℕ) : Type 0 where
+  pub told : Tells (toldReading (readWords data-limit kind bytes (length words))) before number after
   pub buffer : words′ ≡ wordsLeft data-limit kind bytes words
-  pub tells : told′ ≡ sets told 0 (toldReading (readWords data-limit kind bytes (length words)) .values)
 
-pub record WritesInto (kind : Kind) (words bytes told : List ℕ) (number : ℕ) (bytes′ told′ : List ℕ) : Type 0 where
-  pub says : number ≡ toldWriting (writeWords data-limit kind words (length bytes)) .number
+-- the answer told, and the buffer of bytes
+pub record WritesInto (kind : Kind) (words bytes before : List ℕ) (number : ℕ) (bytes′ after : List ℕ) : Type 0 where
+  pub told : Tells (toldWriting (writeWords data-limit kind words (length bytes))) before number after
   pub buffer : bytes′ ≡ bytesLeft data-limit kind words bytes
-  pub tells : told′ ≡ sets told 0 (toldWriting (writeWords data-limit kind words (length bytes)) .values)

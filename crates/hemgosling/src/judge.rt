@@ -3,16 +3,15 @@ use crate::buffer;
 use crate::places;
 use metroid_check::verdict;
 use metroid_check::verdict::Verdict;
-ghost use mathlib.Core.Path.{_≡_};
-ghost use lib.Seq.{sets};
 ghost use Rattle.metroid_check.specs.Verdict.{toldVerdict, Placed};
 ghost use Rattle.hemgosling.specs.Places.{placesOf};
+ghost use Rattle.hemgosling.specs.Tell.{Tells};
 ghost use Rattle.hemgosling.specs.Judge.{Judges};
 
 // The number, and the values into the buffer as far as they fit.
 fn tell(verdict: Verdict, out: &mut [u32]) -> u32
     requires { ⌜ Placed verdict ⌝ }
-    ensures { λ r. ⌜ (r ≡ toldVerdict verdict .number) × (now (out .exit) ≡ sets (now (out .entry)) 0 (toldVerdict verdict .values)) ⌝ }
+    ensures { λ r. ⌜ Tells (toldVerdict verdict) (now (out .entry)) r (now (out .exit)) ⌝ }
 {
     match verdict {
         Verdict::Pass(frame, channel) => {

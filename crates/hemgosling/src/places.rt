@@ -3,7 +3,7 @@ use metroid_format::bank::Places;
 ghost use mathlib.Core.Path.{_≡_};
 ghost use Rattle.hemgosling.specs.Places.{placesOf};
 
-pub fn places_of(
+pub(crate) fn places_of(
     header_offsets: u32,
     header_block: u32,
     note_lengths: u32,

@@ -5,9 +5,9 @@ use metroid_format::words;
 use metroid_format::words::Reading;
 use metroid_format::words::Writing;
 ghost use mathlib.Core.Path.{_≡_};
-ghost use lib.Seq.{sets};
 ghost use Rattle.metroid_format.specs.Command.{data-limit};
 ghost use Rattle.metroid_format.specs.Words.{toldReading, ReadWithin, toldWriting, WroteWithin};
+ghost use Rattle.hemgosling.specs.Tell.{Tells};
 ghost use Rattle.hemgosling.specs.Words.{kindOf, ReadsInto, WritesInto};
 
 // 0 is melodic, any other number noise.
@@ -22,7 +22,7 @@ fn kind_of(noise: u32) -> Kind
 
 fn tell_reading(reading: Reading, out: &mut [u32]) -> u32
     requires { ⌜ ReadWithin data-limit reading ⌝ }
-    ensures { λ r. ⌜ (r ≡ toldReading reading .number) × (now (out .exit) ≡ sets (now (out .entry)) 0 (toldReading reading .values)) ⌝ }
+    ensures { λ r. ⌜ Tells (toldReading reading) (now (out .entry)) r (now (out .exit)) ⌝ }
 {
     match reading {
         Reading::Wrote(count) => {
@@ -39,7 +39,7 @@ fn tell_reading(reading: Reading, out: &mut [u32]) -> u32
 
 fn tell_writing(writing: Writing, out: &mut [u32]) -> u32
     requires { ⌜ WroteWithin data-limit writing ⌝ }
-    ensures { λ r. ⌜ (r ≡ toldWriting writing .number) × (now (out .exit) ≡ sets (now (out .entry)) 0 (toldWriting writing .values)) ⌝ }
+    ensures { λ r. ⌜ Tells (toldWriting writing) (now (out .entry)) r (now (out .exit)) ⌝ }
 {
     match writing {
         Writing::Wrote(count) => {

@@ -60,7 +60,7 @@ pub fn offset_of(address: usize) -> usize
 }
 
 // Whether n bytes from an address stand wholly within the bank.
-pub fn fits(address: usize, n: usize) -> bool
+pub(crate) fn fits(address: usize, n: usize) -> bool
     ensures { λ r. ⌜ r ≡ within address n ⌝ }
 {
     if address < BANK_START {
@@ -86,7 +86,7 @@ pub fn byte(bytes: &[u8], at: usize) -> u8
 }
 
 // The little-endian word at an offset, its bytes 0 where there are none.
-pub fn word(bytes: &[u8], at: usize) -> u16
+pub(crate) fn word(bytes: &[u8], at: usize) -> u16
     ensures { λ r. ⌜ r ≡ wordAt (now (bytes .entry)) at ⌝ }
 {
     if bytes.len() <= at {

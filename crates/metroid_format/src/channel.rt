@@ -129,7 +129,7 @@ fn played_by(
 }
 
 // What the command at an offset does: BL tests 12, 13, then its next byte; a lone note tests 11, then 14.
-pub fn played_at(
+pub(crate) fn played_at(
     kind: Kind,
     bytes: &[u8],
     lengths: &[u8],

@@ -2,7 +2,7 @@
 ghost use mathlib.Core.Path.{_≡_};
 ghost use Prim.Native.Nat.{_%_};
 
-pub fn low1(b: u8) -> u8
+pub(crate) fn low1(b: u8) -> u8
     ensures { λ r. ⌜ r ≡ b % 2 ⌝ }
 {
     b & 0x01
@@ -14,7 +14,7 @@ pub fn low4(b: u8) -> u8
     b & 0x0f
 }
 
-pub fn low6(b: u8) -> u8
+pub(crate) fn low6(b: u8) -> u8
     ensures { λ r. ⌜ r ≡ b % 64 ⌝ }
 {
     b & 0x3f

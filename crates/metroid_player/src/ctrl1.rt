@@ -18,7 +18,7 @@ fn combine(v: u8, default: u8) -> u8
 }
 
 // Ctrl 1 in the frame of that index, from the bytes of the envelope (none: no envelope).
-pub fn ctrl1_at(default: u8, envelope: &[u8], index: usize) -> u8
+pub(crate) fn ctrl1_at(default: u8, envelope: &[u8], index: usize) -> u8
     ensures { λ r. ⌜ r ≡ ctrl1At default (now (envelope .entry)) index ⌝ }
 {
     let mut i: usize = 0;

@@ -41,7 +41,7 @@ const MELODIC_REST: u8 = 0x02;
 
 const NOISE_REST: u8 = 0x01;
 
-pub fn off() -> Event
+pub(crate) fn off() -> Event
     ensures { λ r. ⌜ r ≡ offEvent ⌝ }
 {
     Event {
@@ -155,7 +155,7 @@ fn sound_of(bank: &[u8], track: Track, i: usize, voice: Voice, channel: Channel)
     }
 }
 
-pub fn event_of(
+pub(crate) fn event_of(
     bank: &[u8],
     track: Track,
     i: usize,

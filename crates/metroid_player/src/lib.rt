@@ -1,5 +1,5 @@
 // The player: a track of a lent bank, frame by frame.
-pub mod ctrl1;
+mod ctrl1;
 pub mod event;
 pub mod frame;
 pub mod record;

@@ -27,7 +27,7 @@ pub struct Player {
     pub channels: [Channel; 4],
 }
 
-pub fn fresh_channel() -> Channel
+pub(crate) fn fresh_channel() -> Channel
     ensures { λ r. ⌜ r ≡ freshChannel ⌝ }
 {
     Channel {
@@ -40,7 +40,7 @@ pub fn fresh_channel() -> Channel
     }
 }
 
-pub fn fresh() -> Player
+pub(crate) fn fresh() -> Player
     ensures { λ r. ⌜ r ≡ freshPlayer ⌝ }
 {
     let channel = fresh_channel();
@@ -51,7 +51,7 @@ pub fn fresh() -> Player
 }
 
 // The record after the end: fresh, and stopped unless the track restarts.
-pub fn ended(restart: bool) -> Player
+pub(crate) fn ended(restart: bool) -> Player
     ensures { λ r. ⌜ r ≡ endedPlayer restart ⌝ }
 {
     if restart {
@@ -62,7 +62,7 @@ pub fn ended(restart: bool) -> Player
     player
 }
 
-pub fn cursor_of(channel: Channel) -> Cursor
+pub(crate) fn cursor_of(channel: Channel) -> Cursor
     ensures { λ r. ⌜ r ≡ cursorOf channel ⌝ }
 {
     let next = channel.next as usize;
@@ -79,7 +79,7 @@ pub fn cursor_of(channel: Channel) -> Cursor
 }
 
 // What is not refused under 16: an unused channel, or offsets within the data's limit and a note that can be sounding.
-pub fn channel_fits(voice: Voice, channel: Channel) -> bool
+pub(crate) fn channel_fits(voice: Voice, channel: Channel) -> bool
     ensures { λ r. ⌜ r ≡ channelFits voice channel ⌝ }
 {
     let used = voice.used;

@@ -27,7 +27,7 @@ fn dynamic_of(length: Frames) -> QuarterFrames
 }
 
 // The header's release byte FFFF LLLL, and the note's length.
-pub fn release_of(byte: u8, length: Frames) -> Release
+pub(crate) fn release_of(byte: u8, length: Frames) -> Release
     ensures { λ r. ⌜ r ≡ releaseOf byte length ⌝ }
 {
     let low = field::low4(byte);

@@ -5,12 +5,12 @@ use mathlib.Core.Path.{_≡_, subst}
 use native.Mathlib.Omega.{arith}
 use mir.Syntax.{w32}
 use mir.Val.{Fits}
-use lib.Seq.{sets}
 use Rattle.metroid_format.specs.Command.{data-limit}
 use Rattle.metroid_format.specs.declared.bank.Places.{Places}
 use Rattle.metroid_check.specs.Verdict.{verdictOf, toldVerdict, Placed}
 use Rattle.metroid_check.specs.Demand3.{Foreseen}
 use Rattle.metroid_check.specs.declared.verdict.Verdict.{Verdict}
+use Rattle.hemgosling.specs.Tell.{Tells}
 use Rattle.hemgosling.specs.Judge.{Judges}
 
 pub pass-channel : (v : Verdict) (frame channel : ℕ) → v ≡ Verdict.Pass frame channel → Placed v → Fits w32 channel
@@ -29,7 +29,6 @@ module _ (v : Verdict) (number channel at frame : ℕ) (e : v ≡ Verdict.Fault 
   fault-offset = record { fits = omega (arith, placed .1) }
 
 pub judges : (bank : List ℕ) (places : Places) (track : ℕ) (before : List ℕ) (number : ℕ) (after : List ℕ) (v : Verdict) →
-    Foreseen bank places track v → number ≡ toldVerdict v .number → after ≡ sets before 0 (toldVerdict v .values) →
-    Judges bank places track before number after
-judges bank places track before number after v f n b =
-    record { told = rw (f .answer .same) at n; buffer = rw (f .answer .same) at b; runs = rw (f .answer .same) at (f .runs) }
+    Foreseen bank places track v → Tells (toldVerdict v) before number after → Judges bank places track before number after
+judges bank places track before number after v f t =
+    record { told = rw (f .answer .same) at t; runs = rw (f .answer .same) at (f .runs) }

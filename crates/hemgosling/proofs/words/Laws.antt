@@ -6,13 +6,13 @@ use native.Mathlib.Omega.{arith}
 use mir.Syntax.{w32}
 use mir.Val.{Fits}
 use lib.ListN.{length}
-use lib.Seq.{sets}
 use Rattle.metroid_format.specs.Command.{data-limit}
 use Rattle.metroid_format.specs.Words.{toldReading, ReadWithin, Reads, toldWriting, WroteWithin, Writes}
 use Rattle.metroid_format.specs.declared.command.Kind.{Kind}
 use Rattle.metroid_format.specs.declared.words.Reading.{Reading}
 use Rattle.metroid_format.specs.declared.words.Writing.{Writing}
 use Rattle.metroid_format.proofs.words.Within.{read-within, wrote-within}
+use Rattle.hemgosling.specs.Tell.{Tells}
 use Rattle.hemgosling.specs.Words.{kindOf, ReadsInto, WritesInto}
 
 small : {n : ℕ} → n ≤ data-limit → Fits w32 n
@@ -32,16 +32,14 @@ module _ (noise : ℕ) (kind : Kind) (k : kind ≡ kindOf noise) where
     pub reading-within : ReadWithin data-limit r
     reading-within = rw (a .answered .same) (read-within data-limit kind bytes (length words))
 
-    pub reads-into : (told told′ : List ℕ) (number : ℕ) → (number ≡ toldReading r .number) × (told′ ≡ sets told 0 (toldReading r .values))
-        → ReadsInto (kindOf noise) bytes words told number words′ told′
-    reads-into told told′ number t =
-        rw (← k) (record { says = rw (a .answered .same) at (t .0); buffer = a .buffer; tells = rw (a .answered .same) at (t .1) })
+    pub reads-into : (before after : List ℕ) (number : ℕ) → Tells (toldReading r) before number after
+        → ReadsInto (kindOf noise) bytes words before number words′ after
+    reads-into before after number t = rw (← k) (record { told = rw (a .answered .same) at t; buffer = a .buffer })
 
   module _ (words bytes bytes′ : List ℕ) (r : Writing) (a : Writes data-limit kind words bytes r bytes′) where
     pub writing-within : WroteWithin data-limit r
     writing-within = rw (a .answered .same) (wrote-within data-limit kind words (length bytes))
 
-    pub writes-into : (told told′ : List ℕ) (number : ℕ) → (number ≡ toldWriting r .number) × (told′ ≡ sets told 0 (toldWriting r .values))
-        → WritesInto (kindOf noise) words bytes told number bytes′ told′
-    writes-into told told′ number t =
-        rw (← k) (record { says = rw (a .answered .same) at (t .0); buffer = a .buffer; tells = rw (a .answered .same) at (t .1) })
+    pub writes-into : (before after : List ℕ) (number : ℕ) → Tells (toldWriting r) before number after
+        → WritesInto (kindOf noise) words bytes before number bytes′ after
+    writes-into before after number t = rw (← k) (record { told = rw (a .answered .same) at t; buffer = a .buffer })

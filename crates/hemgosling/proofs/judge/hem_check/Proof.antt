@@ -14,5 +14,4 @@ hem-check-spec =
     (λ c. search needs)
     (λ c.
     let f = c .before .before .before .before in
-    let t = c .before .before .tell .ensures in
-    rw (← f .before .places-of .ensures) (judges _ _ _ _ _ _ _ (f .check .ensures) (t .0) (t .1))))
+    rw (← f .before .places-of .ensures) (judges _ _ _ _ _ _ _ (f .check .ensures) (c .before .before .tell .ensures))))
