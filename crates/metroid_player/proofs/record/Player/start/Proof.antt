@@ -7,4 +7,4 @@ use Rattle.metroid_player.proofs.record.Player.start.Tie as tie
 pub start-spec : {M : Type 1} → statement M
 unfolding startOf
 start-spec =
-    tie.close (tie.spec (λ c κs. search needs) (λ c κs. search needs) (λ c. answers toldStarted _ _ (rw (c .fresh .ensures, c .before .«open» .ensures .same))))
+    tie.close (tie.spec (λ c κs. search needs) (λ c κs. search needs) (λ c. answers toldStarted _ _ (search (c .fresh .ensures, c .before .«open» .ensures .same))))
