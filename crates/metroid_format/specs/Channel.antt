@@ -5,6 +5,7 @@ use lib.Dec.{leb, eqb}
 use lib.ListN.{getD}
 use Rattle.metroid_format.specs.Pick.{pick}
 use Rattle.metroid_format.specs.Number.{Told, past-lengths, zero-length, no-length, past-data}
+use Rattle.metroid_format.specs.Bank.{lengths-size}
 use Rattle.metroid_format.specs.Command.{commandAt}
 use Rattle.metroid_format.specs.declared.command.Kind.{Kind}
 use Rattle.metroid_format.specs.declared.command.Command.{Command}
@@ -26,10 +27,6 @@ pub record Source : Type 0 where
 abbrev pub sourceOf : Kind → List ℕ → List ℕ → ℕ → Source
 sourceOf kind bytes lengths window = record { kind = kind; bytes = bytes; lengths = lengths; window = window }
 
--- the entries of the length table
-abbrev pub length-count : ℕ
-length-count = 40
-
 -- entry t + L
 abbrev pub lengthAt : List ℕ → ℕ → ℕ → ℕ
 lengthAt lengths window l = getD lengths (window + l) 0
@@ -38,7 +35,7 @@ lengthAt lengths window l = getD lengths (window + l) 0
 unfoldable pub lengthFault : List ℕ → ℕ → ℕ → ℕ
 lengthFault lengths window b =
     pick (eqb (b / 16) 0x0b)
-    (pick (leb length-count (window + b % 16)) past-lengths (pick (eqb (lengthAt lengths window (b % 16)) 0) zero-length 0))
+    (pick (leb lengths-size (window + b % 16)) past-lengths (pick (eqb (lengthAt lengths window (b % 16)) 0) zero-length 0))
     0
 
 -- begin loop, counter n - 1; n = 0 counts as 256 plays

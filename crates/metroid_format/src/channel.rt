@@ -17,8 +17,6 @@ pub const ZERO_LENGTH: u32 = 13;
 
 pub const NO_LENGTH: u32 = 14;
 
-const LENGTH_COUNT: usize = 40;
-
 // More commands than reading until a note can take.
 const FUEL: u32 = (DATA_LIMIT / 2 * 257 + 2) as u32;
 
@@ -83,7 +81,7 @@ fn length_fault(lengths: &[u8], window: u8, b: u8) -> u32
         return 0;
     }
     let entry = window as usize + field::low4(b) as usize;
-    if LENGTH_COUNT <= entry {
+    if bank::LENGTHS_SIZE <= entry {
         return PAST_LENGTHS;
     }
     if bank::byte(lengths, entry) == 0 {

@@ -7,6 +7,7 @@ use native.Mathlib.Omega.{arith}
 use borrow.Author.Tests.{eqb-true, eqb-false}
 use lib.Dec.{leb, eqb}
 use lib.ListN.{length, getD}
+use Rattle.metroid_format.specs.Bank.{lengths-size}
 use Rattle.metroid_format.specs.Command.{isNote, commandAt}
 use Rattle.metroid_format.specs.Channel.{Source, lengthFault, lengthAt, counterOf, playedOf, playedBy, playedAt, stepBy, stepOf}
 use Rattle.metroid_format.proofs.Picks.{by-test}
@@ -28,7 +29,7 @@ unfolding lengthFault
 length-above lengths window b e =
     by-test (λ m. m ≡ 0 → 0 < lengthAt lengths window (b % 16)) (eqb (b / 16) 0x0b)
     (λ _.
-    by-test (λ m. m ≡ 0 → 0 < lengthAt lengths window (b % 16)) (leb 40 (window + b % 16)) (λ _ z. absurd (omega arith)) λ _.
+    by-test (λ m. m ≡ 0 → 0 < lengthAt lengths window (b % 16)) (leb lengths-size (window + b % 16)) (λ _ z. absurd (omega arith)) λ _.
     by-test (λ m. m ≡ 0 → 0 < lengthAt lengths window (b % 16)) (eqb (lengthAt lengths window (b % 16)) 0) (λ _ z. absurd (omega arith)) λ t _.
     let above : lengthAt lengths window (b % 16) ≡ 0 → ⊥ = eqb-false _ _ t in
     omega arith) λ t _.

@@ -10,5 +10,5 @@ counter-of-spec =
     tie.close
     (tie.spec
     (λ c. search needs)
-    (λ c. search (picks, needs) depth 12)
-    (λ c. search (picks, needs) depth 12))
+    (λ c. search picks depth 12)
+    (λ c. search picks depth 12))

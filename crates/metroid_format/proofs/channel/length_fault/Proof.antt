@@ -9,11 +9,11 @@ unfolding lengthFault
 length-fault-spec =
     tie.close
     (tie.spec
-    (λ c. search (picks, needs) depth 12)
+    (λ c. search picks depth 12)
     (λ c κs. search needs)
     (λ c. search needs)
     (λ c. search needs)
-    (λ c. rw (← (c .before .low4 .ensures)) (search (picks, needs) depth 12))
+    (λ c. rw (← (c .before .low4 .ensures)) (search picks depth 12))
     (λ c κs. search needs)
-    (λ c. rw (← (c .before .before .before .low4 .ensures)) (search (picks, needs) depth 12))
-    (λ c. rw (← (c .before .before .before .low4 .ensures)) (search (picks, needs) depth 12)))
+    (λ c. rw (← (c .before .before .before .low4 .ensures)) (search picks depth 12))
+    (λ c. rw (← (c .before .before .before .low4 .ensures)) (search picks depth 12)))

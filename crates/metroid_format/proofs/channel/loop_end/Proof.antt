@@ -7,6 +7,6 @@ pub loop-end-spec : {M : Type 1} → statement M
 loop-end-spec =
     tie.close
     (tie.spec
-    (λ c. search (picks, needs) depth 12)
+    (λ c. search picks depth 12)
     (λ c. search needs)
-    (λ c. search (picks, needs) depth 12))
+    (λ c. search picks depth 12))

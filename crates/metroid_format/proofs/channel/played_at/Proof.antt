@@ -11,10 +11,10 @@ played-at-spec =
     (tie.spec
     (λ c κs. search needs)
     (λ c κs. search needs)
-    (λ c. rw (← (c .before .before .byte .ensures), ← (c .before .length-fault .ensures)) (search (picks, needs) depth 12))
+    (λ c. rw (← (c .before .before .byte .ensures), ← (c .before .length-fault .ensures)) (search picks depth 12))
     (λ c κs. search needs)
     (λ c. search needs)
     (λ c κs. search needs)
     (λ c. search needs)
-    (λ c. rw (← (c .before .before .before .before .before .before .before .byte .ensures), ← (c .before .before .before .before .before .before .length-fault .ensures), ← (c .before .before .before .before .command-at .ensures .same), c .before .before .decoded .given .1) (search (picks, needs) depth 12))
-    (λ c. rw (← (c .before .before .before .before .before .before .byte .ensures), ← (c .before .before .before .before .before .length-fault .ensures), ← (c .before .before .before .command-at .ensures .same), c .before .decoded2 .given .1) (search (picks, needs) depth 12)))
+    (λ c. rw (← (c .before .before .before .before .before .before .before .byte .ensures), ← (c .before .before .before .before .before .before .length-fault .ensures), ← (c .before .before .before .before .command-at .ensures .same), c .before .before .decoded .given .1) (search picks depth 12))
+    (λ c. rw (← (c .before .before .before .before .before .before .byte .ensures), ← (c .before .before .before .before .before .length-fault .ensures), ← (c .before .before .before .command-at .ensures .same), c .before .decoded2 .given .1) (search picks depth 12)))

@@ -20,5 +20,5 @@ played-by-spec =
     (λ c. rw (c .enum-told2 .given .1))
     (λ c. rw (c .before .before .command .given .1, c .counter-of .ensures))
     (λ c. rw (c .before .before .command2 .given .1, c .byte .ensures))
-    (λ c. rw (c .before .before .before .command3 .given .1) (search (picks, needs) depth 12))
-    (λ c. rw (c .before .before .before .command3 .given .1) (search (picks, needs) depth 12)))
+    (λ c. rw (c .before .before .before .command3 .given .1) (search picks depth 12))
+    (λ c. rw (c .before .before .before .command3 .given .1) (search picks depth 12)))

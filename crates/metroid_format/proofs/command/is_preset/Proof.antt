@@ -9,7 +9,7 @@ unfolding isPreset
 is-preset-spec =
     tie.close
     (tie.spec
-    (λ c. search (picks, needs) depth 12)
-    (λ c. search (picks, needs) depth 12)
-    (λ c. search (picks, needs) depth 12)
-    (λ c. search (picks, needs) depth 12))
+    (λ c. search picks depth 12)
+    (λ c. search picks depth 12)
+    (λ c. search picks depth 12)
+    (λ c. search picks depth 12))

@@ -9,9 +9,9 @@ unfolding noteAfter
 note-after-spec =
     tie.close
     (tie.spec
-    (λ c. search (picks, needs) depth 12)
+    (λ c. search picks depth 12)
     (λ c. search needs)
     (λ c κs. search needs)
     (λ c. search needs)
-    (λ c. search (picks, needs) depth 12)
-    (λ c. search (picks, needs) depth 12))
+    (λ c. search picks depth 12)
+    (λ c. search picks depth 12))

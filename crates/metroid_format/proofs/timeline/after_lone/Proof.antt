@@ -10,6 +10,6 @@ after-lone-spec =
     (λ c. search needs)
     (λ c. search needs)
     (λ c. search needs)
-    (λ c. search (picks, needs) depth 12)
+    (λ c. search picks depth 12)
     (λ c. search needs)
-    (λ c. search (picks, needs) depth 12))
+    (λ c. search picks depth 12))

@@ -16,4 +16,4 @@ put-pair-spec =
     (λ c. search needs)
     (λ c κs. search needs)
     (λ c. search needs)
-    (λ c. search (put-both, needs) depth 8))
+    (λ c. search put-both depth 8))

@@ -9,9 +9,9 @@ write-words-spec =
     (tie.spec
     (λ c. search needs)
     (λ c κs. search needs)
-    (λ c. search (writes-short, needs) depth 10)
-    (λ c. search (writes-long, needs) depth 10)
+    (λ c. search writes-short depth 10)
+    (λ c. search writes-long depth 10)
     (λ c κs. search needs)
     (λ c. search needs)
-    (λ c. search (writes-all, needs) depth 10)
-    (λ c. search (writes-invalid, needs) depth 10))
+    (λ c. search writes-all depth 10)
+    (λ c. search writes-invalid depth 10))
