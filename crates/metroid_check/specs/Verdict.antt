@@ -1,9 +1,9 @@
 -- The check: the least stop of the used channels, by frame and then by channel.
-use Prim.Native.Nat.{ℕ, _+_, _≤_, _<_}
+use Prim.Native.Nat.{ℕ, _+_, _<_}
 use mathlib.Core.List.{List, [], _∷_}
 use lib.Dec.{leb, eqb}
 use Rattle.metroid_format.specs.Pick.{pick}
-use Rattle.metroid_format.specs.Number.{Told, no-channel}
+use Rattle.metroid_format.specs.Number.{Told, no-channel, Unopened, FaultWithin}
 use Rattle.metroid_format.specs.Command.{data-limit}
 use Rattle.metroid_format.specs.Header.{openTrack}
 use Rattle.metroid_format.specs.Timeline.{timelineOf}
@@ -52,8 +52,8 @@ toldVerdict (Verdict.Pass frame channel) = record { number = 0; values = frame �
 toldVerdict (Verdict.Refused number) = record { number = number; values = [] }
 toldVerdict (Verdict.Fault number channel at frame) = record { number = number; values = channel ∷ at ∷ frame ∷ [] }
 
--- a verdict's place is one of four channels, and an offset in its data or at its end (proofs/verdict/Place.antt)
+-- a refusal is one of 1 to 15; a verdict's place is one of four channels, and an offset in its data or at its end (proofs/verdict/Place.antt)
 abbrev pub Placed : Verdict → Type 0
 Placed (Verdict.Pass frame channel) = channel < 4
-Placed (Verdict.Refused number) = Unit {0}
-Placed (Verdict.Fault number channel at frame) = (channel < 4) × (at ≤ data-limit)
+Placed (Verdict.Refused number) = Unopened number
+Placed (Verdict.Fault number channel at frame) = (channel < 4) × FaultWithin data-limit number at

@@ -1,5 +1,5 @@
 -- The numbers of refusal, and an answer as document 01 tells it.
-use Prim.Native.Nat.{ℕ}
+use Prim.Native.Nat.{ℕ, _≤_}
 use mathlib.Core.List.{List}
 use mathlib.Core.Path.{_≡_}
 
@@ -73,6 +73,14 @@ invalid-word = 17
 
 abbrev pub no-room : ℕ
 no-room = 18
+
+-- 1 to 9: a bank, its places, a track number or a header is refused
+abbrev pub Unopened : ℕ → Type 0
+Unopened number = (wrong-size ≤ number) × (number ≤ no-channel)
+
+-- 10 to 15: a channel's data are refused, at an offset within a limit
+abbrev pub FaultWithin : ℕ → ℕ → ℕ → Type 0
+FaultWithin limit number at = (invalid-command ≤ number) × (number ≤ past-data) × (at ≤ limit)
 
 -- 0 or the number of the refusal, and the values that come with it
 pub record Told : Type 0 where

@@ -7,7 +7,7 @@ use lib.Dec.{leb, eqb}
 use lib.ListN.{length, take, drop}
 use lib.Seq.{sets}
 use Rattle.metroid_format.specs.Pick.{pick}
-use Rattle.metroid_format.specs.Number.{Told, Answers, past-data, invalid-word, no-room}
+use Rattle.metroid_format.specs.Number.{FaultWithin, Told, Answers, past-data, invalid-word, no-room}
 use Rattle.metroid_format.specs.Command.{commandAt, wordOf, isEnd}
 use Rattle.metroid_format.specs.declared.command.Kind.{Kind}
 use Rattle.metroid_format.specs.declared.command.Decoded.{Decoded}
@@ -71,10 +71,10 @@ toldReading (Wrote count) = record { number = 0; values = count ∷ [] }
 toldReading (Unread number at) = record { number = number; values = at ∷ [] }
 toldReading NoRoom = record { number = no-room; values = [] }
 
--- a count or an offset is within a limit
+-- a count is within a limit, and a refusal 10 to 15 at an offset within it
 abbrev pub ReadWithin : ℕ → Reading → Type 0
 ReadWithin limit (Wrote count) = count ≤ limit
-ReadWithin limit (Unread number at) = at ≤ limit
+ReadWithin limit (Unread number at) = FaultWithin limit number at
 ReadWithin limit NoRoom = Unit {0}
 
 pub record Reads (limit : ℕ) (kind : Kind) (bytes before : List ℕ) (answer : Reading) (after : List ℕ) : Type 0 where

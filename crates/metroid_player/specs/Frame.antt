@@ -1,12 +1,12 @@
 -- Document 01, 'A frame': the frame rule, and start.
-use Prim.Native.Nat.{ℕ, _+_, _-_, _≤_, _<_}
+use Prim.Native.Nat.{ℕ, _+_, _-_, _<_}
 use mathlib.Core.Bool.{Bool, true, false}
 use mathlib.Core.List.{List, [], _∷_, _++_}
 use lib.Dec.{eqb}
 use lib.ListN.{take, drop}
 use lib.Seq.{sets}
 use Rattle.metroid_format.specs.Pick.{pick}
-use Rattle.metroid_format.specs.Number.{Told, invalid-record}
+use Rattle.metroid_format.specs.Number.{Told, invalid-record, Unopened, FaultWithin}
 use Rattle.metroid_format.specs.Command.{data-limit}
 use Rattle.metroid_format.specs.Bank.{lengths-size}
 use Rattle.metroid_format.specs.Header.{openTrack}
@@ -194,10 +194,16 @@ toldFramed f = record {
 abbrev pub toldStarted : Started → Told
 toldStarted s = record { number = s .number; values = [] }
 
--- a refusal's place is one of the first n channels, and an offset in its data or at its end (proofs/frame/Place.antt: n is 4)
+-- a refusal that names no place: 1 to 9, and 16
+pub data Unplaced : ℕ → Type 0 where
+  unopened : {number : ℕ} → Unopened number → Unplaced number
+  no-record : Unplaced invalid-record
+
+-- a refusal is one of document 01's table; the place of 10 to 15 is one of the first n channels, and an offset in its data or at its
+-- end (proofs/frame/Place.antt: n is 4)
 abbrev pub Placed : ℕ → Answer → Type 0
 Placed n Answer.Events = Unit {0}
 Placed n Answer.End = Unit {0}
 Placed n Answer.Stopped = Unit {0}
-Placed n (Answer.Refused number) = Unit {0}
-Placed n (Answer.Fault number i at) = (i < n) × (at ≤ data-limit)
+Placed n (Answer.Refused number) = Unplaced number
+Placed n (Answer.Fault number i at) = (i < n) × FaultWithin data-limit number at

@@ -8,6 +8,7 @@ use mir.Syntax.{w32}
 use mir.Val.{Fits}
 use lib.ListN.{length, getD, drop, drop-of-length-le}
 use lib.Seq.{sets, length-sets, drop-cons}
+use Rattle.metroid_format.specs.Number.{FaultWithin}
 use Rattle.metroid_format.specs.Command.{data-limit}
 use Rattle.metroid_format.proofs.Buffers.{sets-append}
 use Rattle.metroid_player.specs.Event.{toldEvent}
@@ -15,16 +16,17 @@ use Rattle.metroid_player.specs.Frame.{answerKind, answerPlace, toldEvents, Pla
 use Rattle.metroid_player.specs.declared.event.Event.{Event}
 use Rattle.metroid_player.specs.declared.event.Sound.{Sound}
 use Rattle.metroid_player.specs.declared.frame.Answer.{Answer}
+use Rattle.hemgosling.proofs.Sizes.{channel-fits, offset-fits}
 
 module _ (a : Answer) (number channel at : ℕ) (e : a ≡ Answer.Fault number channel at) (p : Placed 4 a) where
-  placed : (channel < 4) × (at ≤ data-limit)
+  placed : (channel < 4) × FaultWithin data-limit number at
   placed = subst (Placed 4) e p
 
   pub fault-channel : Fits w32 channel
-  fault-channel = record { fits = omega (arith, placed .0) }
+  fault-channel = channel-fits (placed .0)
 
   pub fault-offset : Fits w32 at
-  fault-offset = record { fits = omega (arith, placed .1) }
+  fault-offset = offset-fits (placed .1)
 
 two : (a : Answer) → length (answerPlace a) ≡ 2
 two Answer.Events = refl

@@ -1,8 +1,7 @@
 -- Reading and writing told to a host: counts and offsets are words of 32 bits.
-use Prim.Native.Nat.{ℕ, _≤_}
+use Prim.Native.Nat.{ℕ}
 use mathlib.Core.List.{List}
 use mathlib.Core.Path.{_≡_, sym, subst}
-use native.Mathlib.Omega.{arith}
 use mir.Syntax.{w32}
 use mir.Val.{Fits}
 use lib.ListN.{length}
@@ -14,18 +13,16 @@ use Rattle.metroid_format.specs.declared.words.Writing.{Writing}
 use Rattle.metroid_format.proofs.words.Within.{read-within, wrote-within}
 use Rattle.hemgosling.specs.Tell.{Tells}
 use Rattle.hemgosling.specs.Words.{kindOf, ReadsInto, WritesInto}
-
-small : {n : ℕ} → n ≤ data-limit → Fits w32 n
-small h = record { fits = omega arith }
+use Rattle.hemgosling.proofs.Sizes.{count-fits, offset-fits}
 
 pub read-count : (r : Reading) (count : ℕ) → r ≡ Reading.Wrote count → ReadWithin data-limit r → Fits w32 count
-read-count r count e w = small (subst (ReadWithin data-limit) e w)
+read-count r count e w = count-fits (subst (ReadWithin data-limit) e w)
 
 pub read-offset : (r : Reading) (number at : ℕ) → r ≡ Reading.Refused number at → ReadWithin data-limit r → Fits w32 at
-read-offset r number at e w = small (subst (ReadWithin data-limit) e w)
+read-offset r number at e w = offset-fits (subst (ReadWithin data-limit) e w)
 
 pub wrote-count : (r : Writing) (count : ℕ) → r ≡ Writing.Wrote count → WroteWithin data-limit r → Fits w32 count
-wrote-count r count e w = small (subst (WroteWithin data-limit) e w)
+wrote-count r count e w = count-fits (subst (WroteWithin data-limit) e w)
 
 module _ (noise : ℕ) (kind : Kind) (k : kind ≡ kindOf noise) where
   module _ (bytes words words′ : List ℕ) (r : Reading) (a : Reads data-limit kind bytes words r words′) where

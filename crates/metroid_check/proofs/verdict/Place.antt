@@ -1,17 +1,18 @@
--- A verdict names one of the four channels and an offset in its data or at its end.
+-- A verdict's refusal is one of 1 to 15, and its place one of the four channels and an offset in its data or at its end.
 use Prim.Native.Nat.{ℕ, _+_, _≤_, _<_}
 use mathlib.Core.List.{List, [], _∷_}
 use mathlib.Core.Path.{_≡_}
 use native.Mathlib.Omega.{arith}
-use borrow.Author.Tests.{eqb-true}
+use borrow.Author.Tests.{eqb-true, eqb-false}
 use lib.Dec.{leb, eqb}
 use lib.ListN.{length}
 use Rattle.metroid_format.specs.Command.{data-limit}
 use Rattle.metroid_format.specs.Header.{openTrack}
 use Rattle.metroid_format.specs.Timeline.{timelineOf}
 use Rattle.metroid_format.proofs.Picks.{by-test}
-use Rattle.metroid_format.proofs.header.Opening.{opens}
-use Rattle.metroid_format.proofs.timeline.Offsets.{FinishWithin, track-within}
+use Rattle.metroid_format.proofs.header.Opening.{opens, unopened}
+use Rattle.metroid_format.proofs.command.Laws.{FinishWithin}
+use Rattle.metroid_format.proofs.timeline.Offsets.{track-within}
 use Rattle.metroid_format.proofs.timeline.Walked.{timeline-walk}
 use Rattle.metroid_format.specs.declared.bank.Places.{Places}
 use Rattle.metroid_format.specs.declared.header.Voice.{Voice}
@@ -48,7 +49,7 @@ module _ (bank : List ℕ) (track : Track) where
       sooner-below n (stopOf bank track i v) _ (stop-below n i v (omega arith)) (soonest-below n (i + 1) vs (omega arith))
 
 by-soonest : (s : Soonest) → Below 4 s → Placed (verdictBy s)
-by-soonest Soonest.Nothing p = tt
+by-soonest Soonest.Nothing p = (omega arith, omega arith)
 by-soonest (Soonest.Stop frame i Finish.End) (h, _) = h
 by-soonest (Soonest.Stop frame i (Finish.Refused number at)) p = p
 
@@ -58,5 +59,5 @@ verdict-placed bank places track =
     by-test Placed (eqb (openTrack bank places track .number) 0)
     (λ e.
     let opened = openTrack bank places track .track in
-    by-soonest (soonestFrom bank opened 0 (opened .voices)) (soonest-below bank opened 4 0 (opened .voices) (omega (arith, opens bank places track (eqb-true _ _ e) .four)))) λ _.
-    tt
+    by-soonest (soonestFrom bank opened 0 (opened .voices)) (soonest-below bank opened 4 0 (opened .voices) (omega (arith, opens bank places track (eqb-true _ _ e) .four)))) λ e.
+    unopened bank places track (eqb-false _ _ e)

@@ -7,6 +7,7 @@ use native.Mathlib.Omega.{arith}
 use borrow.Author.Tests.{eqb-true, eqb-false}
 use lib.Dec.{leb, eqb}
 use lib.ListN.{length, getD}
+use Rattle.metroid_format.specs.Number.{invalid-command, past-data, FaultWithin}
 use Rattle.metroid_format.specs.Bank.{lengths-size}
 use Rattle.metroid_format.specs.Command.{isNote, commandAt}
 use Rattle.metroid_format.specs.Channel.{Source, lengthFault, lengthAt, counterOf, playedOf, playedBy, playedAt, stepBy, stepOf}
@@ -35,6 +36,21 @@ length-above lengths window b e =
     omega arith) λ t _.
     absurd (eqb-false _ _ t e)
 
+-- else it gives 12 or 13
+length-number : (lengths : List ℕ) (window b : ℕ) → (lengthFault lengths window b ≡ 0 → ⊥) →
+    (invalid-command ≤ lengthFault lengths window b) × (lengthFault lengths window b ≤ past-data)
+unfolding lengthFault
+length-number lengths window b =
+    by-test P (eqb (b / 16) 0x0b)
+    (λ _.
+    by-test P (leb lengths-size (window + b % 16)) (λ _ _. (omega arith, omega arith)) λ _.
+    by-test P (eqb (lengthAt lengths window (b % 16)) 0) (λ _ _. (omega arith, omega arith)) λ _ z.
+    absurd (z refl)) λ _ z.
+    absurd (z refl)
+  where
+    P : ℕ → Type 0
+    P m = (m ≡ 0 → ⊥) → (invalid-command ≤ m) × (m ≤ past-data)
+
 -- a note is longer than 0 frames, and a key, rest or preset of the channel; what is not refused stands in the data, and a refusal
 -- names the command's offset, or one in the data or at its end
 pub data Plays (source : Source) (at : ℕ) (current : Frames) : Played → Type 0 where
@@ -46,14 +62,15 @@ pub data Plays (source : Source) (at : ℕ) (current : Frames) : Played → Type
       Plays source at current (Played.Length b (record { count = getD (source .lengths) entry 0 }) (at + 1 + 1))
   lone : (b : ℕ) → at < length (source .bytes) → 0 < current .count → isNote (source .kind) b ≡ true →
       Plays source at current (Played.Note b (at + 1))
-  refused : (number place : ℕ) → place ≤ max at (length (source .bytes)) → Plays source at current (Played.Refused number place)
+  refused : (number place : ℕ) → FaultWithin (max at (length (source .bytes))) number place → Plays source at current (Played.Refused number place)
 
 pub plays : (source : Source) (at : ℕ) (current : Frames) → Plays source at current (playedAt source at current)
 unfolding playedAt
 plays source at current =
     by-test (Plays source at current) (eqb (lengthFault (source .lengths) (source .window) b) 0)
-    (λ z. from (commandAt (source .kind) (source .bytes) at) refl (eqb-true _ _ z)) λ _.
-    refused _ at (omega arith)
+    (λ z. from (commandAt (source .kind) (source .bytes) at) refl (eqb-true _ _ z)) λ z.
+    let (low, high) = length-number _ _ b (eqb-false _ _ z) in
+    refused _ at (low, high, omega arith)
   where
     b : ℕ
     b = getD (source .bytes) at 0
@@ -67,7 +84,7 @@ plays source at current =
         let r : b % 16 ≡ l = omega arith in
         rw (← r) (long note _ h (length-above (source .lengths) (source .window) b (omega arith) z) y)
     stand (is-note note p s y h e) z =
-        by-test (Plays source at current) (eqb (current .count) 0) (λ _. refused _ at (omega arith)) λ t.
+        by-test (Plays source at current) (eqb (current .count) 0) (λ _. refused _ at (omega arith, omega arith, omega arith)) λ t.
         let above : current .count ≡ 0 → ⊥ = eqb-false _ _ t in
         lone note h (omega arith) y
 
@@ -91,7 +108,7 @@ pub data Stepped (source : Source) (cursor : Cursor) : Step → Type 0 where
       Stepped source cursor
       (Step.Note b (record { next = after; «loop_start» = cursor .«loop_start»; counter = cursor .counter; length = frames }))
   ends : cursor .next < length (source .bytes) → Stepped source cursor Step.End
-  refuses : (number at : ℕ) → at ≤ max (cursor .next) (length (source .bytes)) → Stepped source cursor (Step.Refused number at)
+  refuses : (number at : ℕ) → FaultWithin (max (cursor .next) (length (source .bytes))) number at → Stepped source cursor (Step.Refused number at)
 
 pub stepped : (source : Source) (cursor : Cursor) → Stepped source cursor (stepOf source cursor)
 unfolding stepOf

@@ -7,6 +7,7 @@ use native.Mathlib.Omega.{arith}
 use borrow.Author.Tests.{eqb-true, eqb-false, leb-true, leb-false, lt-leb}
 use lib.Dec.{leb, eqb, lit<}
 use lib.ListN.{length, getD}
+use Rattle.metroid_format.specs.Number.{FaultWithin}
 use Rattle.metroid_format.specs.Command.{commandAt, commandOf, noteAfter, isKey, isPreset, isNote, wordOf}
 use Rattle.metroid_format.specs.declared.command.Kind.{Kind}
 use Rattle.metroid_format.specs.declared.command.Kind.the-variants.{Melodic, Noise}
@@ -14,6 +15,7 @@ use Rattle.metroid_format.specs.declared.command.Command.{Command}
 use Rattle.metroid_format.specs.declared.command.Command.the-variants.{End, EndLoop, BeginLoop, Length, Note}
 use Rattle.metroid_format.specs.declared.command.Decoded.{Decoded}
 use Rattle.metroid_format.specs.declared.command.Decoded.the-variants.{Found, Refused}
+use Rattle.metroid_format.specs.declared.command.Finish.{Finish}
 use Rattle.metroid_format.proofs.Picks.{by-test, false-true, picks}
 
 -- a command that stands at an offset, with the offset after it
@@ -24,10 +26,18 @@ pub data Stands (kind : Kind) (bytes : List ℕ) (at : ℕ) : Command → ℕ �
   is-length : (l note : ℕ) → l < 16 → isNote kind note ≡ true → at + 1 < length bytes → getD bytes at 0 ≡ 0xb0 + l → getD bytes (at + 1) 0 ≡ note → Stands kind bytes at (Length l note) (at + 1 + 1)
   is-note : (b : ℕ) → 0 < b → b < 0x80 → isNote kind b ≡ true → at < length bytes → getD bytes at 0 ≡ b → Stands kind bytes at (Note b) (at + 1)
 
+-- how data stop, within a limit
+abbrev pub FinishWithin : ℕ → Finish → Type 0
+FinishWithin limit Finish.End = Unit {0}
+FinishWithin limit (Finish.Refused number at) = FaultWithin limit number at
+
+pub fault-further : (limit more number at : ℕ) → limit ≤ more → FaultWithin limit number at → FaultWithin more number at
+fault-further limit more number at h (low, high, w) = (low, high, omega arith)
+
 -- and a refusal names the offset, or one in the data or at its end
 abbrev Right : Kind → List ℕ → ℕ → Decoded → Type 0
 Right kind bytes at (Found c next) = Stands kind bytes at c next
-Right kind bytes at (Refused number offset) = offset ≤ max at (length bytes)
+Right kind bytes at (Refused number offset) = FaultWithin (max at (length bytes)) number offset
 
 pub note-small : (kind : Kind) (b : ℕ) → isNote kind b ≡ true → b < 0x80
 unfolding isKey isPreset
@@ -64,15 +74,15 @@ module _ (kind : Kind) (bytes : List ℕ) (at : ℕ) where
   after-right : at < length bytes → getD bytes at 0 / 16 ≡ 0x0b → Right kind bytes at (noteAfter kind bytes (at + 1) (getD bytes at 0 % 16))
   unfolding noteAfter
   after-right h q =
-      by-test (Right kind bytes at) (leb (length bytes) (at + 1)) (λ _. omega arith)
+      by-test (Right kind bytes at) (leb (length bytes) (at + 1)) (λ _. (omega arith, omega arith, omega arith))
       (λ n. by-test (Right kind bytes at) (isNote kind (getD bytes (at + 1) 0))
       (λ y. is-length (getD bytes at 0 % 16) (getD bytes (at + 1) 0) (omega arith) y (leb-false _ _ n) (omega arith) refl)
-      (λ _. omega arith))
+      (λ _. (omega arith, omega arith, omega arith)))
 
   command-right : Right kind bytes at (commandAt kind bytes at)
   unfolding commandAt commandOf
   command-right =
-      by-test (Right kind bytes at) (leb (length bytes) at) (λ _. omega arith)
+      by-test (Right kind bytes at) (leb (length bytes) at) (λ _. (omega arith, omega arith, omega arith))
       (λ n. let h = leb-false (length bytes) at n in
       by-test (Right kind bytes at) (eqb (getD bytes at 0) 0x00) (λ e. is-end h (eqb-true _ _ e))
       (λ e0. let z = eqb-false (getD bytes at 0) 0x00 e0 in
@@ -81,16 +91,16 @@ module _ (kind : Kind) (bytes : List ℕ) (at : ℕ) where
       by-test (Right kind bytes at) (eqb (getD bytes at 0 / 64) 3)
       (λ e. let q = eqb-true (getD bytes at 0 / 64) 3 e in is-begin (getD bytes at 0 % 64) (omega arith) h (omega arith))
       (λ e2. by-test (Right kind bytes at) (eqb (getD bytes at 0 / 16) 0x0b) (λ e. after-right h (eqb-true _ _ e))
-      (λ e3. by-test (Right kind bytes at) (leb 0x80 (getD bytes at 0)) (λ _. omega arith)
+      (λ e3. by-test (Right kind bytes at) (leb 0x80 (getD bytes at 0)) (λ _. (omega arith, omega arith, omega arith))
       (λ e4. let s = leb-false 0x80 (getD bytes at 0) e4 in
       by-test (Right kind bytes at) (isNote kind (getD bytes at 0))
       (λ y. is-note (getD bytes at 0) (omega arith) s y h refl)
-      (λ _. omega arith)))))))
+      (λ _. (omega arith, omega arith, omega arith))))))))
 
   pub found : {c : Command} {next : ℕ} → commandAt kind bytes at ≡ Found c next → Stands kind bytes at c next
   found e = subst (Right kind bytes at) e command-right
 
-  pub refused-near : {number offset : ℕ} → commandAt kind bytes at ≡ Refused number offset → offset ≤ max at (length bytes)
+  pub refused-near : {number offset : ℕ} → commandAt kind bytes at ≡ Refused number offset → FaultWithin (max at (length bytes)) number offset
   refused-near e = subst (Right kind bytes at) e command-right
 
   pub stands : {c : Command} {next : ℕ} → Stands kind bytes at c next → commandAt kind bytes at ≡ Found c next

@@ -19,6 +19,7 @@ use Rattle.metroid_format.specs.Number.{
   no-envelope-end,
   channel-outside,
   no-channel,
+  Unopened,
 }
 use Rattle.metroid_format.specs.Bank.{bank-size, bank-start, bank-end, all, offsetOf, within}
 use Rattle.metroid_format.specs.Header.{
@@ -76,7 +77,7 @@ unpassed : (test : Bool) (number : ℕ) → 0 < number → pick test number 0 �
 unpassed true number h e = absurd (omega arith)
 unpassed false number h e = refl
 
-most : (test : Bool) (number rest : ℕ) → number ≤ 9 → rest ≤ 9 → pick test rest number ≤ 9
+most : (test : Bool) (number rest : ℕ) → number ≤ no-channel → rest ≤ no-channel → pick test rest number ≤ no-channel
 most true number rest h k = k
 most false number rest h k = h
 
@@ -176,7 +177,11 @@ opens bank places track e =
     let within = passed (within (headerAddress bank places track) header-size) header-outside _ (omega arith) (below .1) in
     rw e (track-opens bank places (headerOf bank places track) (eqb-true _ _ (size .0)) (within .1))
 
--- a number is 0 or one of 1 to 9
-pub number-most : (bank : List ℕ) (places : Places) (track : ℕ) → openTrack bank places track .number ≤ 9
+number-most : (bank : List ℕ) (places : Places) (track : ℕ) → openTrack bank places track .number ≤ no-channel
 unfolding openTrack numberOf headerNumber
 number-most bank places track = search (most, needs) depth 30
+
+-- else it is refused under one of 1 to 9
+pub unopened : (bank : List ℕ) (places : Places) (track : ℕ)
+    → (openTrack bank places track .number ≡ 0 → ⊥) → Unopened (openTrack bank places track .number)
+unopened bank places track e = (omega arith, number-most bank places track)

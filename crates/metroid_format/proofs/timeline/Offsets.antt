@@ -3,8 +3,10 @@ use Prim.Native.Nat.{ℕ, zero, suc, _+_, _≤_}
 use mathlib.Core.Path.{_≡_, refl}
 use native.Mathlib.Omega.{arith}
 use lib.ListN.{length}
+use Rattle.metroid_format.specs.Number.{FaultWithin}
 use Rattle.metroid_format.specs.Channel.{Source, freshCursor, stepOf, readBy, readFrom, readUntil, fuelOf}
 use Rattle.metroid_format.specs.Timeline.{Walk}
+use Rattle.metroid_format.proofs.command.Laws.{FinishWithin, fault-further}
 use Rattle.metroid_format.proofs.channel.Stepped.{Stepped, begins, goes-on, goes-back, notes, ends, refuses, stepped}
 use Rattle.metroid_format.specs.declared.channel.Cursor.{Cursor}
 use Rattle.metroid_format.specs.declared.channel.Step.{Step}
@@ -15,11 +17,7 @@ use Rattle.metroid_format.specs.declared.command.Finish.{Finish}
 abbrev pub StopWithin : ℕ → Stop → Type 0
 StopWithin limit (Stop.Note b) = Unit {0}
 StopWithin limit Stop.End = Unit {0}
-StopWithin limit (Stop.Refused number at) = at ≤ limit
-
-abbrev pub FinishWithin : ℕ → Finish → Type 0
-FinishWithin limit Finish.End = Unit {0}
-FinishWithin limit (Finish.Refused number at) = at ≤ limit
+StopWithin limit (Stop.Refused number at) = FaultWithin limit number at
 
 record Within (limit : ℕ) (cursor : Cursor) : Type 0 where
   pub next : cursor .next ≤ limit
@@ -29,7 +27,7 @@ abbrev StepWithin : ℕ → Step → Type 0
 StepWithin limit (Step.Again cursor) = Within limit cursor
 StepWithin limit (Step.Note b cursor) = Within limit cursor
 StepWithin limit Step.End = Unit {0}
-StepWithin limit (Step.Refused number at) = at ≤ limit
+StepWithin limit (Step.Refused number at) = FaultWithin limit number at
 
 module _ (source : Source) (limit : ℕ) (fits : length (source .bytes) ≤ limit) where
   by-step : {cursor : Cursor} {step : Step} → Stepped source cursor step → Within limit cursor → StepWithin limit step
@@ -38,14 +36,14 @@ module _ (source : Source) (limit : ℕ) (fits : length (source .bytes) ≤ limi
   by-step (goes-back h e m) p = record { next = p .start; start = p .start }
   by-step (notes b after frames h w l n) p = record { next = omega arith; start = p .start }
   by-step (ends h) p = tt
-  by-step (refuses number at h) p = omega (arith, p .next)
+  by-step (refuses number at h) p = fault-further _ _ _ _ (omega (arith, p .next)) h
 
   step-within : {cursor : Cursor} {step : Step} → stepOf source cursor ≡ step → Within limit cursor → StepWithin limit step
   step-within {cursor} e p = by-step (rw e at (stepped source cursor)) p
 
   read-within : (fuel : ℕ) (cursor : Cursor) (count : ℕ) → Within limit cursor → StopWithin limit (readFrom source fuel cursor count .stop)
   unfolding readFrom
-  read-within zero cursor count p = p .next
+  read-within zero cursor count p = (omega arith, omega arith, p .next)
   read-within (suc fuel) cursor count p = from (read-within fuel) (stepOf source cursor) refl
     where
       from : ((d : Cursor) (n : ℕ) → Within limit d → StopWithin limit (readFrom source fuel d n .stop)) →

@@ -15,11 +15,7 @@ use Rattle.metroid_format.specs.declared.command.Decoded.the-variants.{F
 use Rattle.metroid_format.specs.declared.command.Finish.{Finish}
 use Rattle.metroid_format.specs.declared.command.Finish.the-variants.{End as Ended, Refused as Faulty}
 use Rattle.metroid_format.proofs.Picks.{by-test}
-use Rattle.metroid_format.proofs.command.Laws.{found, refused-near, next-within}
-
-abbrev FinishWithin : ℕ → Finish → Type 0
-FinishWithin limit Ended = Unit {0}
-FinishWithin limit (Faulty number at) = at ≤ limit
+use Rattle.metroid_format.proofs.command.Laws.{found, refused-near, next-within, FinishWithin, fault-further}
 
 module _ (kind : Kind) (bytes : List ℕ) where
   -- at most so many words, and a refusal within the data
@@ -37,17 +33,16 @@ module _ (kind : Kind) (bytes : List ℕ) where
     short-by : (d : Decoded) → commandAt kind bytes at ≡ d → Short (suc left) (straightBy go d)
     short-by (Found c next) e = short-after (isEnd c) (wordOf c) next (next-within (found kind bytes at e))
     short-by (Refused number offset) e =
-        let r = refused-near kind bytes at e in
-        record { words-few = omega arith; finish-near = omega arith }
+        record { words-few = omega arith; finish-near = fault-further _ _ _ _ (omega arith) (refused-near kind bytes at e) }
 
   short : (left at : ℕ) → at ≤ length bytes → Short left (straightFrom kind bytes left at)
   unfolding straightFrom
-  short zero at h = record { words-few = omega arith; finish-near = h }
+  short zero at h = record { words-few = omega arith; finish-near = (omega arith, omega arith, h) }
   short (suc left) at h = short-by at left h (λ next. straightFrom kind bytes left next) (λ next n. short left next n) (commandAt kind bytes at) refl
 
 finished-within : (limit n m : ℕ) (f : Finish) → n ≤ limit → m ≤ limit → FinishWithin m f → ReadWithin limit (finished n f)
 finished-within limit n m Ended h g w = h
-finished-within limit n m (Faulty number at) h g w = omega arith
+finished-within limit n m (Faulty number at) h g w = fault-further m limit number at g w
 
 pub read-within : (limit : ℕ) (kind : Kind) (bytes : List ℕ) (room : ℕ) → ReadWithin limit (readWords limit kind bytes room)
 unfolding readWords

@@ -1,17 +1,18 @@
--- A refused frame names one of the four channels and an offset in its data or at its end.
+-- A refused frame has a number of document 01's table; 10 to 15 name one of the four channels and an offset in its data or at its end.
 use Prim.Native.Nat.{ℕ, _+_, _≤_, _<_}
 use mathlib.Core.Bool.{true}
 use mathlib.Core.List.{List, [], _∷_}
 use mathlib.Core.Path.{_≡_, refl}
 use native.Mathlib.Omega.{arith}
-use borrow.Author.Tests.{eqb-true}
+use borrow.Author.Tests.{eqb-true, eqb-false}
 use lib.Dec.{eqb}
 use lib.ListN.{length}
+use Rattle.metroid_format.specs.Number.{FaultWithin}
 use Rattle.metroid_format.specs.Command.{data-limit}
 use Rattle.metroid_format.specs.Channel.{readUntil}
 use Rattle.metroid_format.specs.Header.{openTrack}
 use Rattle.metroid_format.proofs.Picks.{by-test, false-true}
-use Rattle.metroid_format.proofs.header.Opening.{opens}
+use Rattle.metroid_format.proofs.header.Opening.{opens, unopened}
 use Rattle.metroid_format.proofs.timeline.Offsets.{StopWithin, until-within}
 use Rattle.metroid_format.specs.declared.bank.Places.{Places}
 use Rattle.metroid_format.specs.declared.header.Voice.{Voice}
@@ -19,7 +20,7 @@ use Rattle.metroid_format.specs.declared.header.Track.{Track}
 use Rattle.metroid_format.specs.declared.channel.Cursor.{Cursor}
 use Rattle.metroid_format.specs.declared.channel.Stop.{Stop}
 use Rattle.metroid_player.specs.Record.{cursorOf, channelFits, channelsFit}
-use Rattle.metroid_player.specs.Frame.{channelSource, turnBy, turnOf, Settled, settleBy, settleFrom, framedBy, frameOfTrack, frameOf, Placed}
+use Rattle.metroid_player.specs.Frame.{channelSource, turnBy, turnOf, Settled, settleBy, settleFrom, framedBy, frameOfTrack, frameOf, Unplaced, no-record, Placed}
 use Rattle.metroid_player.specs.declared.record.Channel.{Channel}
 use Rattle.metroid_player.specs.declared.record.Player.{Player}
 use Rattle.metroid_player.specs.declared.frame.Turned.{Turned}
@@ -33,7 +34,7 @@ abbrev TurnWithin : Turned → Type 0
 TurnWithin Turned.Off = Unit {0}
 TurnWithin Turned.Plays = Unit {0}
 TurnWithin Turned.End = Unit {0}
-TurnWithin (Turned.Refused number at) = at ≤ data-limit
+TurnWithin (Turned.Refused number at) = FaultWithin data-limit number at
 
 module _ (bank : List ℕ) (track : Track) where
   by-stop : (c : Channel) (cursor : Cursor) (count : ℕ) (stop : Stop) → StopWithin data-limit stop → TurnWithin (turnBy c cursor count stop .turned)
@@ -76,7 +77,7 @@ module _ (bank : List ℕ) (track : Track) where
   framed-placed player s Answer.Events b = tt
   framed-placed player s Answer.End b = tt
   framed-placed player s Answer.Stopped b = tt
-  framed-placed player s (Answer.Refused number) b = tt
+  framed-placed player s (Answer.Refused number) b = b
   framed-placed player s (Answer.Fault number i at) b = b
 
   track-placed : (player : Player) → length (track .voices) ≡ 4 → Placed 4 (frameOfTrack bank track player .answer)
@@ -89,11 +90,11 @@ module _ (bank : List ℕ) (track : Track) where
       let s = settleFrom bank track 0 (track .voices) (player .channels) in
       framed-placed player s (s .answer) (settle-placed 4 0 (track .voices) (player .channels) (omega arith) f)) λ _.
       tt) λ _.
-      tt
+      no-record
 
 pub frame-placed : (bank : List ℕ) (places : Places) (track : ℕ) (player : Player) → Placed 4 (frameOf bank places track player .answer)
 unfolding frameOf
 frame-placed bank places track player =
     by-test (λ (f : Framed). Placed 4 (f .answer)) (eqb (openTrack bank places track .number) 0)
-    (λ e. track-placed bank (openTrack bank places track .track) player (opens bank places track (eqb-true _ _ e) .four)) λ _.
-    tt
+    (λ e. track-placed bank (openTrack bank places track .track) player (opens bank places track (eqb-true _ _ e) .four)) λ e.
+    Unplaced.unopened (unopened bank places track (eqb-false _ _ e))
