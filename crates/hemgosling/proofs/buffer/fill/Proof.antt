@@ -25,6 +25,6 @@ fill-spec =
     (λ c κs. search needs)
     (λ c. search needs)
     (λ c. omega arith)
-    (λ c. search (filling-more, needs) depth 12)
+    (λ c. search filling-more depth 12)
     (λ c. search needs)
-    (λ c. search (filled, needs) depth 8))
+    (λ c. search filled depth 8))

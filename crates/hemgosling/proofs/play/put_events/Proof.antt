@@ -28,6 +28,6 @@ put-events-spec =
     (λ c κs. search needs)
     (λ c. omega arith)
     (λ c. omega arith)
-    (λ c. search (putting-more, needs) depth 10)
+    (λ c. search putting-more depth 10)
     (λ c. search needs)
-    (λ c. search (all-put, needs) depth 8))
+    (λ c. search all-put depth 8))

@@ -9,7 +9,7 @@ hem-read-words-spec =
     (tie.spec
     (λ c κs. search needs)
     (λ c κs. search needs)
-    (λ c κs. search (reading-within, needs) depth 8)
+    (λ c κs. search reading-within depth 8)
     (λ c. search needs)
     (λ c. search needs)
-    (λ c. search (reads-into, needs) depth 8))
+    (λ c. search reads-into depth 8))

@@ -9,7 +9,7 @@ hem-write-words-spec =
     (tie.spec
     (λ c κs. search needs)
     (λ c κs. search needs)
-    (λ c κs. search (writing-within, needs) depth 8)
+    (λ c κs. search writing-within depth 8)
     (λ c. search needs)
     (λ c. search needs)
-    (λ c. search (writes-into, needs) depth 8))
+    (λ c. search writes-into depth 8))

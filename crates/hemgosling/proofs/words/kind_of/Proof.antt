@@ -1,4 +1,3 @@
-use borrow.Author.Needs.{needs}
 use Rattle.metroid_format.proofs.Picks.{picks}
 use Rattle.hemgosling.proofs.words.kind_of.Statement.{statement}
 use Rattle.hemgosling.proofs.words.kind_of.Tie as tie
@@ -7,5 +6,5 @@ pub kind-of-spec : {M : Type 1} → statement M
 kind-of-spec =
     tie.close
     (tie.spec
-    (λ c. search (picks, needs) depth 12)
-    (λ c. search (picks, needs) depth 12))
+    (λ c. search picks depth 12)
+    (λ c. search picks depth 12))

@@ -26,5 +26,5 @@ soonest-of-spec =
     (λ c κs. search needs)
     (λ c. omega arith)
     (λ c. omega arith)
-    (λ c. search (look-on, needs) depth 8)
-    (λ c. search (looked, needs) depth 8))
+    (λ c. search look-on depth 8)
+    (λ c. search looked depth 8))

@@ -10,5 +10,5 @@ stop-of-spec =
     tie.close
     (tie.spec
     (λ c κs. search needs)
-    (λ c. rw (c .timeline-of .ensures) (search (picks, needs) depth 12))
-    (λ c. search (picks, needs) depth 12))
+    (λ c. rw (c .timeline-of .ensures) (search picks depth 12))
+    (λ c. search picks depth 12))

@@ -1,6 +1,5 @@
 use Prim.Native.Nat.{_+_, _≤_, _<_}
 use native.Mathlib.Omega.{arith}
-use borrow.Author.Needs.{needs}
 use Rattle.metroid_format.specs.Bank.{within, bank-end}
 use Rattle.metroid_format.proofs.Picks.{picks}
 use Rattle.metroid_format.proofs.bank.fits.Statement.{statement}
@@ -11,13 +10,13 @@ unfolding within
 fits-spec =
     tie.close
     (tie.spec
-    (λ c. search (picks, needs) depth 12)
+    (λ c. search picks depth 12)
     (λ c. let a = c .before .before .args in
     let h : bank-end < a .address + a .n = omega arith in
-    search (picks, needs) depth 12)
+    search picks depth 12)
     (λ c. let a = c .before .before .before .args in
     let h : bank-end < a .address + a .n = omega arith in
-    search (picks, needs) depth 12)
+    search picks depth 12)
     (λ c. let a = c .before .before .before .args in
     let h : a .address + a .n ≤ bank-end = omega arith in
-    search (picks, needs) depth 12))
+    search picks depth 12))

@@ -10,7 +10,7 @@ address-fits-spec =
     tie.close
     (tie.spec
     (λ c κs. search needs)
-    (λ c. search (picks, needs) depth 12)
+    (λ c. search picks depth 12)
     (λ c. search needs)
     (λ c κs. search needs)
-    (λ c. rw (← (c .before .before .word .ensures)) (search (picks, needs) depth 12)))
+    (λ c. rw (← (c .before .before .word .ensures)) (search picks depth 12)))

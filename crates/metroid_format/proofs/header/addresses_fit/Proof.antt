@@ -10,10 +10,10 @@ addresses-fit-spec =
     tie.close
     (tie.spec
     (λ c κs. search needs)
-    (λ c. search (guards, needs) depth 20)
+    (λ c. search guards depth 20)
     (λ c κs. search needs)
-    (λ c. search (guards, needs) depth 20)
+    (λ c. search guards depth 20)
     (λ c κs. search needs)
-    (λ c. search (guards, needs) depth 20)
+    (λ c. search guards depth 20)
     (λ c κs. search needs)
-    (λ c. search (guards, needs) depth 20))
+    (λ c. search guards depth 20))

@@ -10,10 +10,10 @@ all-unused-spec =
     tie.close
     (tie.spec
     (λ c κs. search needs)
-    (λ c. search (picks, guards, needs) depth 12)
+    (λ c. search (picks, guards) depth 12)
     (λ c κs. search needs)
-    (λ c. search (picks, guards, needs) depth 12)
+    (λ c. search (picks, guards) depth 12)
     (λ c κs. search needs)
-    (λ c. search (picks, guards, needs) depth 12)
+    (λ c. search (picks, guards) depth 12)
     (λ c κs. search needs)
-    (λ c. rw (← (c .word4 .ensures)) (search (picks, guards, needs) depth 12)))
+    (λ c. rw (← (c .word4 .ensures)) (search (picks, guards) depth 12)))

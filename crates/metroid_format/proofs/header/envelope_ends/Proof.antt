@@ -9,13 +9,13 @@ unfolding envelopeEnds
 envelope-ends-spec =
     tie.close
     (tie.spec
-    (λ c. search (guards, needs) depth 12)
+    (λ c. search guards depth 12)
     (λ c κs. search needs)
     (λ c. search needs)
     (λ c κs. search needs)
-    (λ c. rw (← (c .before .before .envelope-address .ensures)) (search (guards, needs) depth 12))
+    (λ c. rw (← (c .before .before .envelope-address .ensures)) (search guards depth 12))
     (λ c. search needs)
     (λ c κs. search needs)
     (λ c κs. search needs)
     (λ c κs. search needs)
-    (λ c. rw (← (c .before .before .before .before .before .envelope-address .ensures), ← (c .before .before .offset-of .ensures), ← (c .before .part .ensures), ← (c .shows-end .ensures)) (search (guards, needs) depth 12)))
+    (λ c. rw (← (c .before .before .before .before .before .envelope-address .ensures), ← (c .before .before .offset-of .ensures), ← (c .before .part .ensures), ← (c .shows-end .ensures)) (search guards depth 12)))

@@ -10,6 +10,6 @@ envelope-numbers-fit-spec =
     tie.close
     (tie.spec
     (λ c κs. search needs)
-    (λ c. rw (← (c .before .byte .ensures)) (search (guards, needs) depth 12))
+    (λ c. rw (← (c .before .byte .ensures)) (search guards depth 12))
     (λ c κs. search needs)
-    (λ c. rw (← (c .before .before .byte .ensures), ← (c .byte2 .ensures)) (search (guards, needs) depth 12)))
+    (λ c. rw (← (c .before .before .byte .ensures), ← (c .byte2 .ensures)) (search guards depth 12)))

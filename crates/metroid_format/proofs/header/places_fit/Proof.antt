@@ -11,14 +11,14 @@ unfolding placesFit
 places-fit-spec =
     tie.close
     (tie.spec
-    (λ c. search (guards, needs) depth 12)
-    (λ c. let h : 255 < c .before .before .before .before .args .p .«track_count» = omega arith in search (guards, needs) depth 12)
+    (λ c. search guards depth 12)
+    (λ c. let h : 255 < c .before .before .before .before .args .p .«track_count» = omega arith in search guards depth 12)
     (λ c. search needs)
     (λ c. search needs)
     (λ c κs. search needs)
-    (λ c. search (guards, needs) depth 12)
+    (λ c. search guards depth 12)
     (λ c. search needs)
     (λ c κs. search needs)
-    (λ c. search (guards, needs) depth 12)
+    (λ c. search guards depth 12)
     (λ c κs. search needs)
-    (λ c. search (guards, needs) depth 12))
+    (λ c. search guards depth 12))

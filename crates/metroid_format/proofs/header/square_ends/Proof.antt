@@ -9,6 +9,6 @@ unfolding squareEnds
 square-ends-spec =
     tie.close
     (tie.spec
-    (λ c. search (guards, needs) depth 12)
+    (λ c. search guards depth 12)
     (λ c κs. search needs)
-    (λ c. search (guards, needs) depth 12))
+    (λ c. search guards depth 12))

@@ -10,9 +10,9 @@ voice-of-spec =
     tie.close
     (tie.spec
     (λ c κs. search needs)
-    (λ c. search (picks, needs) depth 12)
+    (λ c. search picks depth 12)
     (λ c κs. search needs)
-    (λ c. rw (c .before .offset-word .ensures) (search (picks, needs) depth 12))
+    (λ c. rw (c .before .offset-word .ensures) (search picks depth 12))
     (λ c κs. search needs)
     (λ c κs. search needs)
-    (λ c. rw (c .offset-word2 .ensures, c .before .envelope-address .ensures, c .before .before .before .offset-word .ensures) (search (picks, needs) depth 12)))
+    (λ c. rw (c .offset-word2 .ensures, c .before .envelope-address .ensures, c .before .before .before .offset-word .ensures) (search picks depth 12)))

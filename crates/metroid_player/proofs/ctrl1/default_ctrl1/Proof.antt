@@ -1,4 +1,3 @@
-use borrow.Author.Needs.{needs}
 use Rattle.metroid_player.specs.Ctrl1.{defaultCtrl1}
 use Rattle.metroid_format.proofs.Picks.{picks}
 use Rattle.metroid_player.proofs.ctrl1.default_ctrl1.Statement.{statement}
@@ -9,5 +8,5 @@ unfolding defaultCtrl1
 default-ctrl1-spec =
     tie.close
     (tie.spec
-    (λ c. search (picks, needs) depth 12)
-    (λ c. search (picks, needs) depth 12))
+    (λ c. search picks depth 12)
+    (λ c. search picks depth 12))

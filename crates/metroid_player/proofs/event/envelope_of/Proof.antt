@@ -11,6 +11,6 @@ envelope-of-spec =
     (tie.spec
     (λ c. search needs)
     (λ c κs. search needs)
-    (λ c. search (picks, needs) depth 12)
+    (λ c. search picks depth 12)
     (λ c κs. search needs)
-    (λ c. search (picks, needs) depth 12))
+    (λ c. search picks depth 12))

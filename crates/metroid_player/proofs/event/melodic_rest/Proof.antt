@@ -1,4 +1,3 @@
-use borrow.Author.Needs.{needs}
 use Rattle.metroid_player.specs.Event.{melodicRest}
 use Rattle.metroid_format.proofs.Picks.{picks}
 use Rattle.metroid_player.proofs.event.melodic_rest.Statement.{statement}
@@ -7,4 +6,4 @@ use Rattle.metroid_player.proofs.event.melodic_rest.Tie as tie
 pub melodic-rest-spec : {M : Type 1} → statement M
 unfolding melodicRest
 melodic-rest-spec =
-    tie.close (tie.spec (λ c. search (picks, needs) depth 12) (λ c. search (picks, needs) depth 12))
+    tie.close (tie.spec (λ c. search picks depth 12) (λ c. search picks depth 12))

@@ -9,10 +9,10 @@ unfolding noiseSound
 noise-sound-spec =
     tie.close
     (tie.spec
-    (λ c. search (picks, needs) depth 12)
+    (λ c. search picks depth 12)
     (λ c κs. search needs)
     (λ c. search needs)
     (λ c κs. search needs)
     (λ c. search needs)
     (λ c κs. search needs)
-    (λ c. search (picks, needs) depth 12))
+    (λ c. search picks depth 12))

@@ -12,8 +12,8 @@ frame-of-track-spec =
     (tie.spec
     (λ c κs. search needs)
     (λ c κs. sym (c .before .before .before .channels-fit .ensures) ∙ c .before .before .if1 .taken)
-    (λ c. search (picks, needs) depth 12)
+    (λ c. search picks depth 12)
     (λ c κs. search needs)
-    (λ c. search (picks, needs) depth 12)
+    (λ c. search picks depth 12)
     (λ c κs. search needs)
-    (λ c. search (picks, needs) depth 12))
+    (λ c. search picks depth 12))

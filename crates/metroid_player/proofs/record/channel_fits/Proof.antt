@@ -10,11 +10,11 @@ channel-fits-spec =
     tie.close
     (tie.spec
     (λ c. search needs)
-    (λ c. search (picks, needs) depth 12)
+    (λ c. search picks depth 12)
     (λ c. search needs)
-    (λ c. search (picks, needs) depth 12)
-    (λ c. search (picks, needs) depth 12)
-    (λ c. search (picks, needs) depth 12)
+    (λ c. search picks depth 12)
+    (λ c. search picks depth 12)
+    (λ c. search picks depth 12)
     (λ c κs. search needs)
-    (λ c. search (picks, needs) depth 12)
-    (λ c. search (picks, needs) depth 12))
+    (λ c. search picks depth 12)
+    (λ c. search picks depth 12))

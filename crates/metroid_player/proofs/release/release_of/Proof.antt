@@ -10,7 +10,7 @@ release-of-spec =
     tie.close
     (tie.spec
     (λ c κs. search needs)
-    (λ c. rw (← (c .before .low4 .ensures)) (search (picks, needs) depth 12))
-    (λ c. rw (← (c .before .before .low4 .ensures)) (search (picks, needs) depth 12))
+    (λ c. rw (← (c .before .low4 .ensures)) (search picks depth 12))
+    (λ c. rw (← (c .before .before .low4 .ensures)) (search picks depth 12))
     (λ c κs. search needs)
-    (λ c. rw (← (c .before .before .before .low4 .ensures), ← (c .dynamic-of .ensures)) (search (picks, needs) depth 12)))
+    (λ c. rw (← (c .before .before .before .low4 .ensures), ← (c .dynamic-of .ensures)) (search picks depth 12)))
