@@ -8,7 +8,7 @@ use borrow.Author.Tests.{leb-true, leb-false}
 use lib.Dec.{leb}
 use Rattle.metroid_format.specs.Pick.{pick}
 use Rattle.metroid_format.proofs.Picks.{by-test}
-use Rattle.metroid_format.specs.Timeline.{timelineOf}
+use Rattle.metroid_channel.specs.Timeline.{timelineOf}
 use Rattle.metroid_format.specs.declared.header.Voice.{Voice}
 use Rattle.metroid_format.specs.declared.header.Track.{Track}
 use Rattle.metroid_format.specs.declared.command.Finish.{Finish}

@@ -27,8 +27,8 @@ use Rattle.metroid_format.specs.Header.{
   trackOf,
   openTrack,
 }
-use Rattle.metroid_format.specs.Channel.{lengthFault, counterOf, playedAt, stepOf, readFrom, readUntil}
-use Rattle.metroid_format.specs.Timeline.{passedOf, passFrom, timelineOf}
+use Rattle.metroid_channel.specs.Channel.{lengthFault, counterOf, playedAt, stepOf, readFrom, readUntil}
+use Rattle.metroid_channel.specs.Timeline.{passedOf, passFrom, timelineOf}
 use Rattle.metroid_player.specs.Release.{dynamic, releaseOf}
 use Rattle.metroid_player.specs.Ctrl1.{defaultCtrl1, combined, ctrl1At}
 use Rattle.metroid_player.specs.Record.{soundFits, channelFits}

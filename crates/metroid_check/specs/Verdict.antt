@@ -6,12 +6,12 @@ use Rattle.metroid_format.specs.Pick.{pick}
 use Rattle.metroid_format.specs.Number.{Told, no-channel, Unopened, FaultWithin}
 use Rattle.metroid_format.specs.Command.{data-limit}
 use Rattle.metroid_format.specs.Header.{openTrack}
-use Rattle.metroid_format.specs.Timeline.{timelineOf}
+use Rattle.metroid_channel.specs.Timeline.{timelineOf}
 use Rattle.metroid_format.specs.declared.bank.Places.{Places}
 use Rattle.metroid_format.specs.declared.header.Voice.{Voice}
 use Rattle.metroid_format.specs.declared.header.Track.{Track}
 use Rattle.metroid_format.specs.declared.command.Finish.{Finish}
-use Rattle.metroid_format.specs.declared.timeline.Timeline.{Timeline}
+use Rattle.metroid_channel.specs.declared.timeline.Timeline.{Timeline}
 use Rattle.metroid_player.specs.Frame.{channelSource}
 use Rattle.metroid_check.specs.declared.verdict.Soonest.{Soonest}
 use Rattle.metroid_check.specs.declared.verdict.Verdict.{Verdict}

@@ -1,4 +1,6 @@
 // Where a track ends or is refused, found from its bytes: no frame is run.
+use metroid_channel::timeline;
+use metroid_channel::timeline::Timeline;
 use metroid_format::bank;
 use metroid_format::bank::Places;
 use metroid_format::command::DATA_LIMIT;
@@ -6,10 +8,8 @@ use metroid_format::command::Finish;
 use metroid_format::header;
 use metroid_format::header::Track;
 use metroid_format::header::Voice;
-use metroid_format::timeline;
-use metroid_format::timeline::Timeline;
 ghost use mathlib.Core.Path.{_≡_};
-ghost use Rattle.metroid_format.specs.Timeline.{timelineOf};
+ghost use Rattle.metroid_channel.specs.Timeline.{timelineOf};
 ghost use Rattle.metroid_player.specs.Frame.{channelSource};
 ghost use Rattle.metroid_check.specs.Verdict.{stopOf, sooner, soonestFrom, verdictBy};
 ghost use Rattle.metroid_check.specs.Demand3.{Foreseen};

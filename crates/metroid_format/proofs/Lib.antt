@@ -1,3 +1,2 @@
 pub mod Picks
 pub mod Buffers
-pub mod Fuel

@@ -4,5 +4,3 @@ pub mod Command
 pub mod Words
 pub mod Bank
 pub mod Header
-pub mod Channel
-pub mod Timeline

@@ -10,13 +10,13 @@ use Rattle.metroid_format.specs.Number.{Told, invalid-record, Unopened, FaultWi
 use Rattle.metroid_format.specs.Command.{data-limit}
 use Rattle.metroid_format.specs.Bank.{lengths-size}
 use Rattle.metroid_format.specs.Header.{openTrack}
-use Rattle.metroid_format.specs.Channel.{Source, sourceOf, readUntil}
+use Rattle.metroid_channel.specs.Channel.{Source, sourceOf, readUntil}
 use Rattle.metroid_format.specs.declared.bank.Places.{Places}
 use Rattle.metroid_format.specs.declared.header.Voice.{Voice}
 use Rattle.metroid_format.specs.declared.header.Track.{Track}
-use Rattle.metroid_format.specs.declared.channel.Cursor.{Cursor}
-use Rattle.metroid_format.specs.declared.channel.Stop.{Stop}
-use Rattle.metroid_format.specs.declared.channel.Reading.{Reading}
+use Rattle.metroid_channel.specs.declared.channel.Cursor.{Cursor}
+use Rattle.metroid_channel.specs.declared.channel.Stop.{Stop}
+use Rattle.metroid_channel.specs.declared.channel.Reading.{Reading}
 use Rattle.metroid_player.specs.Record.{four, freshPlayer, endedPlayer, cursorOf, channelsFit}
 use Rattle.metroid_player.specs.Event.{offEvent, eventOf, toldEvent}
 use Rattle.metroid_player.specs.declared.record.Channel.{Channel}

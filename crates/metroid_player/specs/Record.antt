@@ -4,7 +4,7 @@ use mathlib.Core.List.{List, [], _∷_}
 use lib.Dec.{leb, eqb}
 use Rattle.metroid_format.specs.Pick.{pick}
 use Rattle.metroid_format.specs.Command.{data-limit, isNote}
-use Rattle.metroid_format.specs.declared.channel.Cursor.{Cursor}
+use Rattle.metroid_channel.specs.declared.channel.Cursor.{Cursor}
 use Rattle.metroid_format.specs.declared.header.Voice.{Voice}
 use Rattle.metroid_player.specs.declared.record.Channel.{Channel}
 use Rattle.metroid_player.specs.declared.record.Player.{Player}

@@ -2,8 +2,8 @@
 use Prim.Native.Nat.{ℕ, _-_, _*_, _/_, _%_, min}
 use lib.Dec.{eqb}
 use Rattle.metroid_format.specs.Pick.{pick}
-use Rattle.metroid_format.specs.declared.channel.Frames.{Frames}
-use Rattle.metroid_format.specs.declared.channel.QuarterFrames.{QuarterFrames}
+use Rattle.metroid_channel.specs.declared.channel.Frames.{Frames}
+use Rattle.metroid_channel.specs.declared.channel.QuarterFrames.{QuarterFrames}
 use Rattle.metroid_player.specs.declared.release.Release.{Release}
 use Rattle.metroid_player.specs.declared.release.Release.the-variants.{After, Never}
 

@@ -1,6 +1,6 @@
 // The player's record, and what is refused of one.
-use metroid_format::channel::Cursor;
-use metroid_format::channel::Frames;
+use metroid_channel::channel::Cursor;
+use metroid_channel::channel::Frames;
 use metroid_format::command;
 use metroid_format::header::Voice;
 ghost use mathlib.Core.Path.{_≡_};

@@ -1,6 +1,6 @@
 // How long a triangle note sounds.
-use metroid_format::channel::Frames;
-use metroid_format::channel::QuarterFrames;
+use metroid_channel::channel::Frames;
+use metroid_channel::channel::QuarterFrames;
 use metroid_format::field;
 ghost use mathlib.Core.Path.{_≡_};
 ghost use Rattle.metroid_player.specs.Release.{dynamic, releaseOf};

@@ -8,12 +8,12 @@ use lib.Dec.{leb, eqb}
 use lib.ListN.{length}
 use Rattle.metroid_format.specs.Command.{data-limit}
 use Rattle.metroid_format.specs.Header.{openTrack}
-use Rattle.metroid_format.specs.Timeline.{timelineOf}
+use Rattle.metroid_channel.specs.Timeline.{timelineOf}
 use Rattle.metroid_format.proofs.Picks.{by-test}
 use Rattle.metroid_format.proofs.header.Opening.{opens, unopened}
 use Rattle.metroid_format.proofs.command.Laws.{FinishWithin}
-use Rattle.metroid_format.proofs.timeline.Offsets.{track-within}
-use Rattle.metroid_format.proofs.timeline.Walked.{timeline-walk}
+use Rattle.metroid_channel.proofs.timeline.Offsets.{track-within}
+use Rattle.metroid_channel.proofs.timeline.Walked.{timeline-walk}
 use Rattle.metroid_format.specs.declared.bank.Places.{Places}
 use Rattle.metroid_format.specs.declared.header.Voice.{Voice}
 use Rattle.metroid_format.specs.declared.header.Track.{Track}

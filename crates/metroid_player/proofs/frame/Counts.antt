@@ -9,15 +9,15 @@ use lib.Dec.{leb, eqb}
 use lib.ListN.{length, set, length-take}
 use lib.Seq.{sets}
 use Rattle.metroid_format.specs.Command.{data-limit}
-use Rattle.metroid_format.specs.Channel.{readUntil}
+use Rattle.metroid_channel.specs.Channel.{readUntil}
 use Rattle.metroid_format.specs.Header.{openTrack}
 use Rattle.metroid_format.proofs.Picks.{by-test, false-true}
-use Rattle.metroid_format.proofs.channel.ReadBound.{Placed, count-bound}
+use Rattle.metroid_channel.proofs.channel.ReadBound.{Placed, count-bound}
 use Rattle.metroid_format.specs.declared.bank.Places.{Places}
 use Rattle.metroid_format.specs.declared.header.Voice.{Voice}
 use Rattle.metroid_format.specs.declared.header.Track.{Track}
-use Rattle.metroid_format.specs.declared.channel.Cursor.{Cursor}
-use Rattle.metroid_format.specs.declared.channel.Stop.{Stop}
+use Rattle.metroid_channel.specs.declared.channel.Cursor.{Cursor}
+use Rattle.metroid_channel.specs.declared.channel.Stop.{Stop}
 use Rattle.metroid_player.specs.Record.{four, cursorOf, channelFits, channelsFit}
 use Rattle.metroid_player.specs.Counts.{pairs, most-commands, AtMost}
 use Rattle.metroid_player.specs.Frame.{

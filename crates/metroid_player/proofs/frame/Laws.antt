@@ -11,16 +11,16 @@ use lib.Seq.{sets, drop-cons, drop-drop, drop-set-lt}
 use borrow.Author.Tests.{leb-true}
 use Rattle.metroid_format.specs.Pick.{pick}
 use Rattle.metroid_format.specs.Command.{data-limit}
-use Rattle.metroid_format.specs.Channel.{sourceOf, readUntil, toldReading}
+use Rattle.metroid_channel.specs.Channel.{sourceOf, readUntil, toldReading}
 use Rattle.metroid_format.specs.Number.{Answers}
 use Rattle.metroid_format.specs.Bank.{lengths-size}
 use Rattle.metroid_format.specs.declared.header.Voice.{Voice}
 use Rattle.metroid_format.specs.declared.header.Track.{Track}
-use Rattle.metroid_format.specs.declared.channel.Cursor.{Cursor}
-use Rattle.metroid_format.specs.declared.channel.Stop.{Stop}
-use Rattle.metroid_format.specs.declared.channel.Reading.{Reading}
+use Rattle.metroid_channel.specs.declared.channel.Cursor.{Cursor}
+use Rattle.metroid_channel.specs.declared.channel.Stop.{Stop}
+use Rattle.metroid_channel.specs.declared.channel.Reading.{Reading}
 use Rattle.metroid_format.proofs.Picks.{by-test, false-true, pick-true, pick-false, pick-eq, pick-ne}
-use Rattle.metroid_format.proofs.channel.ReadBound.{Placed, reads, reads-placed}
+use Rattle.metroid_channel.proofs.channel.ReadBound.{Placed, reads, reads-placed}
 use Rattle.metroid_player.specs.Record.{four, endedPlayer, cursorOf, channelFits, channelsFit}
 use Rattle.metroid_player.specs.Event.{offEvent, eventOf}
 use Rattle.metroid_player.specs.Frame.{channelSource, begun, turnBy, oneOff, turnOfReading, turnOf, Settled, settled, settleOn, settleBy, settleTurn, settleFrom, silent, framed}

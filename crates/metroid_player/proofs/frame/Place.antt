@@ -9,16 +9,16 @@ use lib.Dec.{eqb}
 use lib.ListN.{length}
 use Rattle.metroid_format.specs.Number.{FaultWithin}
 use Rattle.metroid_format.specs.Command.{data-limit}
-use Rattle.metroid_format.specs.Channel.{readUntil}
+use Rattle.metroid_channel.specs.Channel.{readUntil}
 use Rattle.metroid_format.specs.Header.{openTrack}
 use Rattle.metroid_format.proofs.Picks.{by-test, false-true}
 use Rattle.metroid_format.proofs.header.Opening.{opens, unopened}
-use Rattle.metroid_format.proofs.timeline.Offsets.{StopWithin, until-within}
+use Rattle.metroid_channel.proofs.timeline.Offsets.{StopWithin, until-within}
 use Rattle.metroid_format.specs.declared.bank.Places.{Places}
 use Rattle.metroid_format.specs.declared.header.Voice.{Voice}
 use Rattle.metroid_format.specs.declared.header.Track.{Track}
-use Rattle.metroid_format.specs.declared.channel.Cursor.{Cursor}
-use Rattle.metroid_format.specs.declared.channel.Stop.{Stop}
+use Rattle.metroid_channel.specs.declared.channel.Cursor.{Cursor}
+use Rattle.metroid_channel.specs.declared.channel.Stop.{Stop}
 use Rattle.metroid_player.specs.Record.{cursorOf, channelFits, channelsFit}
 use Rattle.metroid_player.specs.Frame.{channelSource, turnBy, turnOf, Settled, settleBy, settleFrom, framedBy, frameOfTrack, frameOf, Unplaced, no-record, Placed}
 use Rattle.metroid_player.specs.declared.record.Channel.{Channel}

@@ -8,20 +8,20 @@ use borrow.Author.Tests.{eqb-true, eqb-false, le-leb}
 use lib.Dec.{eqb}
 use lib.ListN.{length}
 use Rattle.metroid_format.specs.Command.{data-limit, isNote}
-use Rattle.metroid_format.specs.Channel.{Source, readUntil}
-use Rattle.metroid_format.specs.Timeline.{Walk}
+use Rattle.metroid_channel.specs.Channel.{Source, readUntil}
+use Rattle.metroid_channel.specs.Timeline.{Walk}
 use Rattle.metroid_format.proofs.Picks.{pick-false, by-test, false-true}
-use Rattle.metroid_format.proofs.channel.Stepped.{Stepped, notes, stepped}
-use Rattle.metroid_format.proofs.channel.ReadSteps.{Reads, again, note, end, refused}
-use Rattle.metroid_format.proofs.channel.ReadBound.{Placed, reads, reads-placed}
-use Rattle.metroid_format.proofs.timeline.Walked.{WalkAfter, read-walk}
+use Rattle.metroid_channel.proofs.channel.Stepped.{Stepped, notes, stepped}
+use Rattle.metroid_channel.proofs.channel.ReadSteps.{Reads, again, note, end, refused}
+use Rattle.metroid_channel.proofs.channel.ReadBound.{Placed, reads, reads-placed}
+use Rattle.metroid_channel.proofs.timeline.Walked.{WalkAfter, read-walk}
 use Rattle.metroid_format.specs.declared.header.Voice.{Voice}
 use Rattle.metroid_format.specs.declared.header.Track.{Track}
 use Rattle.metroid_format.specs.declared.command.Finish.{Finish}
-use Rattle.metroid_format.specs.declared.channel.Cursor.{Cursor}
-use Rattle.metroid_format.specs.declared.channel.Step.{Step}
-use Rattle.metroid_format.specs.declared.channel.Stop.{Stop}
-use Rattle.metroid_format.specs.declared.channel.Reading.{Reading}
+use Rattle.metroid_channel.specs.declared.channel.Cursor.{Cursor}
+use Rattle.metroid_channel.specs.declared.channel.Step.{Step}
+use Rattle.metroid_channel.specs.declared.channel.Stop.{Stop}
+use Rattle.metroid_channel.specs.declared.channel.Reading.{Reading}
 use Rattle.metroid_player.proofs.frame.Counts.{source-within}
 use Rattle.metroid_player.proofs.frame.Laws.{turn-off}
 use Rattle.metroid_player.specs.Record.{cursorOf, soundFits, channelFits}

@@ -7,11 +7,11 @@ use native.Mathlib.Nat.{zero-add}
 use native.Mathlib.Omega.{arith}
 use lib.ListN.{length, replicate}
 use Rattle.metroid_format.specs.Pick.{pick}
-use Rattle.metroid_format.specs.Timeline.{timelineOf}
+use Rattle.metroid_channel.specs.Timeline.{timelineOf}
 use Rattle.metroid_format.specs.Header.{openTrack}
 use Rattle.metroid_format.proofs.Picks.{pick-eq, pick-ne, by-test, false-true}
 use Rattle.metroid_format.proofs.header.Opening.{SomeUsed, opens}
-use Rattle.metroid_format.proofs.timeline.Walked.{timeline-walk}
+use Rattle.metroid_channel.proofs.timeline.Walked.{timeline-walk}
 use Rattle.metroid_format.specs.declared.bank.Places.{Places}
 use Rattle.metroid_format.specs.declared.header.Voice.{Voice}
 use Rattle.metroid_format.specs.declared.header.Track.{Track}
