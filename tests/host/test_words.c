@@ -11,13 +11,13 @@ static size_t random_room(size_t size)
     return one_in(2) ? LONGEST : below((uint32_t)size + 2);
 }
 
-static void compare_reading(int noise, const uint8_t *bytes, size_t size)
+static void compare_reading(int noise, const uint8_t *bytes, size_t size, size_t room)
 {
     uint16_t found[LENT], wanted[LENT];
     uint32_t told[TOLD], wanted_told[TOLD];
     size_t count, offset;
     ref_kind kind = noise ? REF_NOISE : REF_MELODIC;
-    size_t room = random_room(size), told_room = below(TOLD);
+    size_t told_room = below(TOLD);
     fill_pattern(found, sizeof found);
     fill_pattern(wanted, sizeof wanted);
     fill_pattern(told, sizeof told);
@@ -32,13 +32,13 @@ static void compare_reading(int noise, const uint8_t *bytes, size_t size)
     EXPECT(memcmp(told, wanted_told, sizeof told) == 0);
 }
 
-static void compare_writing(int noise, const uint16_t *words, size_t size)
+static void compare_writing(int noise, const uint16_t *words, size_t size, size_t room)
 {
     uint8_t found[LENT], wanted[LENT];
     uint32_t told[TOLD], wanted_told[TOLD];
     size_t count;
     ref_kind kind = noise ? REF_NOISE : REF_MELODIC;
-    size_t room = random_room(size), told_room = below(TOLD);
+    size_t told_room = below(TOLD);
     fill_pattern(found, sizeof found);
     fill_pattern(wanted, sizeof wanted);
     fill_pattern(told, sizeof told);
@@ -53,6 +53,22 @@ static void compare_writing(int noise, const uint16_t *words, size_t size)
     EXPECT(memcmp(told, wanted_told, sizeof told) == 0);
 }
 
+/* Every word alone and before an end, and all data of one or two bytes, alone and before an end. */
+static void all_of_two_bytes(int noise)
+{
+    for (uint32_t i = 0; i < 0x10000; i++) {
+        const uint16_t words[] = { (uint16_t)i, 0 };
+        const uint8_t bytes[] = { (uint8_t)i, (uint8_t)(i >> 8), 0x00 };
+        begin_round(i);
+        compare_writing(noise, words, 1, LONGEST);
+        compare_writing(noise, words, 2, LONGEST);
+        compare_reading(noise, bytes, 2, LONGEST);
+        compare_reading(noise, bytes, 3, LONGEST);
+        if (i <= UINT8_MAX)
+            compare_reading(noise, bytes, 1, LONGEST);
+    }
+}
+
 /* Random data, with an end at some place more often than not. */
 static void round_of_reading(int noise)
 {
@@ -61,7 +77,7 @@ static void round_of_reading(int noise)
     random_data(noise, bytes, size);
     if (size > 0 && !one_in(3))
         bytes[below((uint32_t)size)] = 0x00;
-    compare_reading(noise, bytes, size);
+    compare_reading(noise, bytes, size, random_room(size));
 }
 
 /* Commands without an end, then one; sometimes none, a second one, or a word that is none. */
@@ -81,7 +97,7 @@ static void round_of_writing(int noise)
     }
     if (size > 0 && !one_in(10))
         words[size - 1] = 0;
-    compare_writing(noise, words, size);
+    compare_writing(noise, words, size, random_room(size));
 }
 
 /* One-byte commands up to an end that stands beside the limit; then a set-length command near it. */
@@ -94,10 +110,10 @@ static void round_at_the_limit(int noise)
     bytes[size - 1] = 0x00;
     for (size_t i = 0; i < size; i++)
         words[i] = bytes[i];
-    compare_reading(noise, bytes, size);
-    compare_writing(noise, words, size);
+    compare_reading(noise, bytes, size, random_room(size));
+    compare_writing(noise, words, size, random_room(size));
     bytes[size - 1 - below(3)] = 0xB0;
-    compare_reading(noise, bytes, size);
+    compare_reading(noise, bytes, size, random_room(size));
 }
 
 /* What was read, written again, is the same data. */
@@ -115,6 +131,10 @@ static void round_trip(int noise)
 
 void test_words(unsigned long rounds)
 {
+    begin_part("all words, melodic");
+    all_of_two_bytes(0);
+    begin_part("all words, noise");
+    all_of_two_bytes(1);
     begin_part("words");
     for (unsigned long i = 0; i < rounds; i++) {
         begin_round(i);
