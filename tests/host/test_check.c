@@ -34,6 +34,22 @@ static void compare_check(const setup *s)
     }
 }
 
+/* A track of one channel: its verdict is where that channel stops, and after how many frames. */
+static void round_of_one_channel(int channel)
+{
+    static uint8_t bank[HEM_BANK_SIZE];
+    uint8_t bytes[HEM_DATA_LIMIT];
+    size_t size = 1 + below(one_in(3) ? HEM_DATA_LIMIT : 40);
+    setup s;
+    plain_setup(&s, bank);
+    for (uint32_t i = 0; i < LENGTH_BYTES; i++)
+        *byte_at(&s, s.places.note_lengths + i) = (uint8_t)(one_in(12) ? 0 : 1 + below(255));
+    header_of(&s)[WINDOW] = (uint8_t)below(32);
+    random_data(channel == HEM_NOISE, bytes, size);
+    use_channel(&s, channel, bytes, size);
+    compare_check(&s);
+}
+
 void test_check(unsigned long rounds)
 {
     uint8_t *memory = fenced_memory();
@@ -43,5 +59,11 @@ void test_check(unsigned long rounds)
         begin_round(i);
         random_setup(&s, memory);
         compare_check(&s);
+    }
+    begin_part("check of one channel");
+    for (unsigned long i = 0; i < rounds; i++) {
+        begin_round(i);
+        for (int channel = HEM_SQUARE_1; channel < HEM_CHANNELS; channel++)
+            round_of_one_channel(channel);
     }
 }
