@@ -6,6 +6,7 @@ use lib.ListN.{length, getD, replicate}
 use Rattle.metroid_format.specs.Number.{Told, invalid-command, invalid-note, past-lengths, no-length, past-data}
 use Rattle.metroid_format.specs.Command.{isKey, isPreset, noteAfter, commandOf, commandAt}
 use Rattle.metroid_format.specs.Bank.{bank-start, bank-end, published, within, wordAt}
+use Rattle.metroid_format.specs.Envelope.{envelopeAddress, envelopeEnds}
 use Rattle.metroid_format.specs.Header.{
   tablesFit,
   placesFit,
@@ -13,8 +14,6 @@ use Rattle.metroid_format.specs.Header.{
   headerOf,
   windowFits,
   envelopeNumbersFit,
-  envelopeAddress,
-  envelopeEnds,
   squareEnds,
   squaresEnd,
   addressFits,

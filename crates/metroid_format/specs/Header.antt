@@ -1,5 +1,5 @@
 -- Document 01, 'The bank and its places', and numbers 1 to 9 of 'Numbers of refusal'.
-use Prim.Native.Nat.{ℕ, _+_, _-_, _*_, _/_}
+use Prim.Native.Nat.{ℕ, _+_, _/_}
 use mathlib.Core.Bool.{Bool, true, false, not}
 use mathlib.Core.List.{List, [], _∷_, map}
 use lib.Dec.{leb, ltb, eqb}
@@ -28,6 +28,7 @@ use Rattle.metroid_format.specs.Bank.{
   within,
   wordAt,
 }
+use Rattle.metroid_format.specs.Envelope.{envelopeAddress, envelopeEnds}
 use Rattle.metroid_format.specs.declared.command.Kind.{Kind}
 use Rattle.metroid_format.specs.declared.command.Kind.the-variants.{Melodic, Noise}
 use Rattle.metroid_format.specs.declared.bank.Places.{Places}
@@ -81,27 +82,6 @@ last-envelope = 5
 -- +3, +4 envelope numbers of squares 1 and 2
 unfoldable pub envelopeNumbersFit : List ℕ → Bool
 envelopeNumbersFit header = all (leb (getD header 3 0) last-envelope ∷ leb (getD header 4 0) last-envelope ∷ [])
-
--- F0 or FF stands in an envelope's bytes
-abbrev pub showsEnd : List ℕ → Bool
-showsEnd [] = false
-showsEnd (b ∷ rest) = pick (eqb b 0xf0) true (pick (eqb b 0xff) true (showsEnd rest))
-
--- the address of envelope 1 to 5, from the table
-unfoldable pub envelopeAddress : List ℕ → ℕ → ℕ → ℕ
-envelopeAddress bank table number = wordAt bank (offsetOf (table + 2 * (number - 1)))
-
-abbrev pub envelope-reach : ℕ
-envelope-reach = 64
-
--- no envelope, or one within the bank that shows F0 or FF in 64 bytes, cut at $bfff
-unfoldable pub envelopeEnds : List ℕ → ℕ → ℕ → Bool
-envelopeEnds bank table number =
-    pick (eqb number 0) true
-    (all
-    (within (envelopeAddress bank table number) 1
-    ∷ showsEnd (take envelope-reach (drop (offsetOf (envelopeAddress bank table number)) bank))
-    ∷ []))
 
 -- only a square with a nonzero address is asked
 unfoldable pub squareEnds : List ℕ → ℕ → ℕ → ℕ → Bool

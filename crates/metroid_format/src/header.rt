@@ -2,8 +2,8 @@
 use crate::bank;
 use crate::bank::Places;
 use crate::command::Kind;
+use crate::envelope;
 ghost use mathlib.Core.Path.{_≡_};
-ghost use Prim.Native.Nat.{_<_};
 ghost use lib.ListN.{take, drop};
 ghost use Rattle.metroid_format.specs.Bank.{offsetOf, wordAt};
 ghost use Rattle.metroid_format.specs.Header.{
@@ -13,9 +13,6 @@ ghost use Rattle.metroid_format.specs.Header.{
   header-size,
   windowFits,
   envelopeNumbersFit,
-  showsEnd,
-  envelopeAddress,
-  envelopeEnds,
   squareEnds,
   squaresEnd,
   addressFits,
@@ -55,9 +52,6 @@ pub const NO_CHANNEL: u32 = 9;
 const HEADER_SIZE: usize = 13;
 
 const LAST_ENVELOPE: u8 = 5;
-
-// F0 or FF stands in this many bytes of an envelope.
-pub const ENVELOPE_REACH: usize = 64;
 
 // A channel as the header has it, with offsets in the bank. An unused one has nothing but its kind.
 pub struct Voice {
@@ -154,45 +148,6 @@ fn envelope_numbers_fit(header: &[u8]) -> bool
     bank::byte(header, 4) <= LAST_ENVELOPE
 }
 
-// Whether F0 or FF stands in an envelope.
-fn shows_end(bytes: &[u8]) -> bool
-    ensures { λ r. ⌜ r ≡ showsEnd (now (bytes .entry)) ⌝ }
-{
-    let mut i = 0;
-    while i < bytes.len() {
-        let b = bytes[i];
-        if b == 0xf0 {
-            return true;
-        }
-        if b == 0xff {
-            return true;
-        }
-        i += 1;
-    }
-    false
-}
-
-fn envelope_address(bank: &[u8], table: u32, number: u8) -> u16
-    requires { ⌜ 0 < number ⌝ }
-    ensures { λ r. ⌜ r ≡ envelopeAddress (now (bank .entry)) table number ⌝ }
-{
-    let at = bank::offset_of(table as usize + 2 * (number as usize - 1));
-    bank::word(bank, at)
-}
-
-fn envelope_ends(bank: &[u8], table: u32, number: u8) -> bool
-    ensures { λ r. ⌜ r ≡ envelopeEnds (now (bank .entry)) table number ⌝ }
-{
-    if number == 0 {
-        return true;
-    }
-    let address = envelope_address(bank, table, number);
-    if !bank::fits(address as usize, 1) {
-        return false;
-    }
-    shows_end(bank::part(bank, bank::offset_of(address as usize), ENVELOPE_REACH))
-}
-
 // The envelope of a square by its number and the square's address.
 fn square_ends(bank: &[u8], table: u32, number: u8, address: u16) -> bool
     ensures { λ r. ⌜ r ≡ squareEnds (now (bank .entry)) table number address ⌝ }
@@ -200,7 +155,7 @@ fn square_ends(bank: &[u8], table: u32, number: u8, address: u16) -> bool
     if address == 0 {
         return true;
     }
-    envelope_ends(bank, table, number)
+    envelope::ends(bank, table, number)
 }
 
 fn squares_end(bank: &[u8], table: u32, header: &[u8]) -> bool
@@ -311,7 +266,7 @@ fn voice_of(bank: &[u8], table: u32, kind: Kind, address: u16, number: u8, defau
             default,
         };
     }
-    let envelope = offset_word(envelope_address(bank, table, number));
+    let envelope = offset_word(envelope::address_of(bank, table, number));
     Voice {
         used: true,
         kind,

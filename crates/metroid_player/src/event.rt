@@ -7,7 +7,7 @@ use metroid_channel::channel::Frames;
 use metroid_channel::channel::QuarterFrames;
 use metroid_format::bank;
 use metroid_format::command::Kind;
-use metroid_format::header;
+use metroid_format::envelope;
 use metroid_format::header::Track;
 use metroid_format::header::Voice;
 ghost use mathlib.Core.Path.{_≡_};
@@ -71,7 +71,7 @@ fn envelope_of(bank: &[u8], voice: Voice) -> &[u8]
     let has = voice.has_envelope;
     let at = voice.envelope as usize;
     if has {
-        return bank::part(bank, at, header::ENVELOPE_REACH);
+        return bank::part(bank, at, envelope::REACH);
     }
     bank::part(bank, 0, 0)
 }

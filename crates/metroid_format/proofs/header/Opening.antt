@@ -22,6 +22,7 @@ use Rattle.metroid_format.specs.Number.{
   Unopened,
 }
 use Rattle.metroid_format.specs.Bank.{bank-size, bank-start, bank-end, all, offsetOf, within}
+use Rattle.metroid_format.specs.Envelope.{envelopeAddress}
 use Rattle.metroid_format.specs.Header.{
   placesFit,
   windowFits,
@@ -37,7 +38,6 @@ use Rattle.metroid_format.specs.Header.{
   header-size,
   unusedVoice,
   usedVoice,
-  envelopeAddress,
   voiceOf,
   voicesOf,
   trackOf,

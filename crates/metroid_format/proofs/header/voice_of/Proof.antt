@@ -15,4 +15,4 @@ voice-of-spec =
     (λ c. rw (c .before .offset-word .ensures) (search picks depth 12))
     (λ c κs. search needs)
     (λ c κs. search needs)
-    (λ c. rw (c .offset-word2 .ensures, c .before .envelope-address .ensures, c .before .before .before .offset-word .ensures) (search picks depth 12)))
+    (λ c. rw (c .offset-word2 .ensures, c .before .address-of .ensures, c .before .before .before .offset-word .ensures) (search picks depth 12)))

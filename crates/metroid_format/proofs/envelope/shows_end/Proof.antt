@@ -5,9 +5,9 @@ use borrow.Author.Needs.{needs}
 use borrow.Author.Tests.{eq-eqb, ne-eqb}
 use lib.ListN.{length, drop, drop-of-length-le}
 use lib.Seq.{drop-cons}
-use Rattle.metroid_format.specs.Header.{showsEnd}
-use Rattle.metroid_format.proofs.header.shows_end.Statement.{statement}
-use Rattle.metroid_format.proofs.header.shows_end.Tie as tie
+use Rattle.metroid_format.specs.Envelope.{showsEnd}
+use Rattle.metroid_format.proofs.envelope.shows_end.Statement.{statement}
+use Rattle.metroid_format.proofs.envelope.shows_end.Tie as tie
 
 abbrev Inv-loop : tie.InvT-loop
 Inv-loop bytes i₀ i = (i ≤ length bytes) × (showsEnd (drop i bytes) ≡ showsEnd bytes)

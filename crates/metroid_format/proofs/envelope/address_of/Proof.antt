@@ -1,0 +1,16 @@
+use borrow.Author.Needs.{needs}
+use Rattle.metroid_format.specs.Envelope.{envelopeAddress}
+use Rattle.metroid_format.proofs.envelope.address_of.Statement.{statement}
+use Rattle.metroid_format.proofs.envelope.address_of.Tie as tie
+
+pub address-of-spec : {M : Type 1} → statement M
+unfolding envelopeAddress
+address-of-spec =
+    tie.close
+    (tie.spec
+    (λ c. search needs)
+    (λ c. search needs)
+    (λ c. search needs)
+    (λ c κs. search needs)
+    (λ c κs. search needs)
+    (λ c. rw (c .word .ensures, c .before .offset-of .ensures)))

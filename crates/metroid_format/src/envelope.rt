@@ -1,0 +1,49 @@
+// The envelopes of the squares.
+use crate::bank;
+ghost use mathlib.Core.Path.{_≡_};
+ghost use Prim.Native.Nat.{_<_};
+ghost use Rattle.metroid_format.specs.Envelope.{showsEnd, envelopeAddress, envelopeEnds};
+
+// F0 or FF stands in this many bytes of an envelope.
+pub const REACH: usize = 64;
+
+// Whether F0 or FF stands in an envelope.
+fn shows_end(bytes: &[u8]) -> bool
+    ensures { λ r. ⌜ r ≡ showsEnd (now (bytes .entry)) ⌝ }
+{
+    let mut i = 0;
+    while i < bytes.len() {
+        let b = bytes[i];
+        if b == 0xf0 {
+            return true;
+        }
+        if b == 0xff {
+            return true;
+        }
+        i += 1;
+    }
+    false
+}
+
+// The address of envelope 1 to 5.
+pub(crate) fn address_of(bank: &[u8], table: u32, number: u8) -> u16
+    requires { ⌜ 0 < number ⌝ }
+    ensures { λ r. ⌜ r ≡ envelopeAddress (now (bank .entry)) table number ⌝ }
+{
+    let at = bank::offset_of(table as usize + 2 * (number as usize - 1));
+    bank::word(bank, at)
+}
+
+// Whether envelope 0 to 5 ends within its reach; 0 is none.
+pub(crate) fn ends(bank: &[u8], table: u32, number: u8) -> bool
+    ensures { λ r. ⌜ r ≡ envelopeEnds (now (bank .entry)) table number ⌝ }
+{
+    if number == 0 {
+        return true;
+    }
+    let address = address_of(bank, table, number);
+    if !bank::fits(address as usize, 1) {
+        return false;
+    }
+    shows_end(bank::part(bank, bank::offset_of(address as usize), REACH))
+}
