@@ -1,7 +1,24 @@
--- What a frame leaves of its answer beside the buffer.
-use Rattle.metroid_player.specs.Frame.{answerNumber}
+-- What start and frame owe a host that lends its one record.
+use Prim.Native.Nat.{ℕ}
+use mathlib.Core.List.{List}
+use mathlib.Core.Path.{_≡_}
+use Rattle.metroid_format.specs.declared.bank.Places.{Places}
+use Rattle.metroid_player.specs.Frame.{startOf, frameOf, answerNumber, toldFramed}
+use Rattle.metroid_player.specs.declared.record.Player.{Player}
 use Rattle.metroid_player.specs.declared.frame.Framed.{Framed}
+use Rattle.hemgosling.specs.Tell.{Tells}
 use Rattle.hemgosling.specs.declared.play.Stepped.{Stepped}
 
+-- its number, and the record fresh
+pub record Starts (bank : List ℕ) (places : Places) (track number : ℕ) (after : Player) : Type 0 where
+  pub says : number ≡ startOf bank places track .number
+  pub fresh : after ≡ startOf bank places track .player
+
+-- its answer told, and the record stepped where it sits
+pub record Steps (bank : List ℕ) (places : Places) (track : ℕ) (player : Player) (buffer : List ℕ) (number : ℕ) (player′ : Player) (buffer′ : List ℕ) : Type 0 where
+  pub told : Tells (toldFramed (frameOf bank places track player)) buffer number buffer′
+  pub stepped : player′ ≡ frameOf bank places track player .player
+
+-- what a frame leaves of its answer beside the buffer
 abbrev pub steppedOf : Framed → Stepped
 steppedOf f = record { number = answerNumber (f .answer); player = f .player }

@@ -15,7 +15,7 @@ ghost use Rattle.metroid_player.specs.Release.{toldRelease};
 ghost use Rattle.metroid_player.specs.Event.{toldEvent};
 ghost use Rattle.metroid_player.specs.Frame.{startOf, frameOf, answerNumber, answerKind, answerPlace, toldEvents, toldFramed, Placed};
 ghost use Rattle.hemgosling.specs.Places.{placesOf};
-ghost use Rattle.hemgosling.specs.Play.{steppedOf};
+ghost use Rattle.hemgosling.specs.Play.{Starts, Steps, steppedOf};
 
 // Never, where a release is told as a number.
 const NEVER: u32 = 255;
@@ -219,8 +219,9 @@ pub extern "C" fn hem_start(
     default1: u8,
     default2: u8,
 ) -> u32
-    ensures { λ r. ⌜ (r ≡ startOf (now (bank .entry)) (placesOf «header_offsets» «header_block» «note_lengths» «key_periods» «noise_presets» «envelope_addresses» «track_count» default1 default2) track .number)
-        × (now (player .exit) ≡ startOf (now (bank .entry)) (placesOf «header_offsets» «header_block» «note_lengths» «key_periods» «noise_presets» «envelope_addresses» «track_count» default1 default2) track .player) ⌝ }
+    ensures { λ r. ⌜ Starts (now (bank .entry))
+        (placesOf «header_offsets» «header_block» «note_lengths» «key_periods» «noise_presets» «envelope_addresses» «track_count» default1 default2)
+        track r (now (player .exit)) ⌝ }
 {
     let started = started_of(
         bank,
@@ -255,9 +256,9 @@ pub extern "C" fn hem_frame(
     default2: u8,
     answer: &mut [u32],
 ) -> u32
-    ensures { λ r. ⌜ (r ≡ steppedOf (frameOf (now (bank .entry)) (placesOf «header_offsets» «header_block» «note_lengths» «key_periods» «noise_presets» «envelope_addresses» «track_count» default1 default2) track (now (player .entry))) .number)
-        × (now (player .exit) ≡ steppedOf (frameOf (now (bank .entry)) (placesOf «header_offsets» «header_block» «note_lengths» «key_periods» «noise_presets» «envelope_addresses» «track_count» default1 default2) track (now (player .entry))) .player)
-        × (now (answer .exit) ≡ sets (now (answer .entry)) 0 (toldFramed (frameOf (now (bank .entry)) (placesOf «header_offsets» «header_block» «note_lengths» «key_periods» «noise_presets» «envelope_addresses» «track_count» default1 default2) track (now (player .entry))) .values)) ⌝ }
+    ensures { λ r. ⌜ Steps (now (bank .entry))
+        (placesOf «header_offsets» «header_block» «note_lengths» «key_periods» «noise_presets» «envelope_addresses» «track_count» default1 default2)
+        track (now (player .entry)) (now (answer .entry)) r (now (player .exit)) (now (answer .exit)) ⌝ }
 {
     let stepped = frame_into(
         *player,

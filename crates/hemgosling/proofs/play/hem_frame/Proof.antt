@@ -103,7 +103,7 @@ module _ {M : Type 1} (𝓤 : URA M) (H : Heap 𝓤) (A : Atoms 𝓤) (W : Given
   exits r z0 e l0 small =
       qed W (‵ (fobs γ (T.the-row .coded .code (r .player))) ∷ ‵ (fbor κ (Body (mem T.the-row) b o γ)) ∷ ‵ (flft κ q) ∷ toks ∷ ‵ (finally u32 (answer .name) z0) ∷ ‵ Own ∷ []) ∵
       suffices ! _ (ends-at 𝓤 H A f.ended stayed (f.clauses 𝓤 H A at-mem run) W (((κ, (κ1, (κ2, tt))), (q, (q1, (q2, tt))), tt, x, at), tt) (vint w32 (r .number)) (r .number) (r .player, (tt, (tt, (tt, (tt, (tt, (tt, (tt, (tt, (tt, (tt, (tt, (z0, tt))))))))))))) (tt, (tt, (tt, (tt, (tt, (tt, (tt, (tt, (tt, (tt, (tt, (tt, (l0, tt)))))))))))))) $
-      says ! (ap (λ (z : Stepped). z .number) (e .0), ap (λ (z : Stepped). z .player) (e .0), e .1) $ move ! (2 ∷ 3 ∷ []) $ join ! $ frame ! $
+      says ! (record { told = record { says = ap (λ (z : Stepped). z .number) (e .0); shows = e .1 }; stepped = ap (λ (z : Stepped). z .player) (e .0) }) $ move ! (2 ∷ 3 ∷ []) $ join ! $ frame ! $
       feqI ! (List Val) (vptr b o ∷ []) (vptr b o ∷ []) refl $ fjoin3 ! $ nothing ! $ move ! (2 ∷ 0 ∷ []) $ fjoin ! $ owned ! u8 (Is u8) (uint-makes 𝓤 H A W w8) default2 _ (refl, default2-fits) $ fjoin ! $ owned ! u8 (Is u8) (uint-makes 𝓤 H A W w8) default1 _ (refl, default1-fits) $ fjoin ! $ owned ! u32 (Is u32) (uint-makes 𝓤 H A W w32) track _ (refl, track-fits) $ fjoin ! $ owned ! u32 (Is u32) (uint-makes 𝓤 H A W w32) count _ (refl, count-fits) $ fjoin ! $ owned ! u32 (Is u32) (uint-makes 𝓤 H A W w32) envelopes _ (refl, envelopes-fits) $ fjoin ! $ owned ! u32 (Is u32) (uint-makes 𝓤 H A W w32) presets _ (refl, presets-fits) $ fjoin ! $ owned ! u32 (Is u32) (uint-makes 𝓤 H A W w32) periods _ (refl, periods-fits) $ fjoin ! $ owned ! u32 (Is u32) (uint-makes 𝓤 H A W w32) lengths _ (refl, lengths-fits) $ fjoin ! $ owned ! u32 (Is u32) (uint-makes 𝓤 H A W w32) block _ (refl, block-fits) $ fjoin ! $ owned ! u32 (Is u32) (uint-makes 𝓤 H A W w32) offsets _ (refl, offsets-fits) $ fjoin ! $ move ! (2 ∷ 0 ∷ []) $ fjoin ! $ move ! (1 ∷ 0 ∷ []) $ fjoin ! $ owned ! u32 (Is u32) (uint-makes 𝓤 H A W w32) (r .number) _ (refl, small) $ move ! (1 ∷ 0 ∷ []) $ done !
 
   -- what whoever holds the callee's result knows of its fields
