@@ -7,7 +7,7 @@ use mir.Val.{Fits}
 use Rattle.metroid_format.specs.Number.{FaultWithin}
 use Rattle.metroid_format.specs.Command.{data-limit}
 use Rattle.metroid_format.specs.declared.bank.Places.{Places}
-use Rattle.metroid_check.specs.Verdict.{verdictOf, toldVerdict, Placed}
+use Rattle.metroid_check.specs.Verdict.{toldVerdict, Placed}
 use Rattle.metroid_check.specs.Demand3.{Foreseen}
 use Rattle.metroid_check.specs.declared.verdict.Verdict.{Verdict}
 use Rattle.hemgosling.specs.Tell.{Tells}

@@ -1,7 +1,7 @@
 -- Reading and writing told to a host: counts and offsets are words of 32 bits.
 use Prim.Native.Nat.{ℕ}
 use mathlib.Core.List.{List}
-use mathlib.Core.Path.{_≡_, sym, subst}
+use mathlib.Core.Path.{_≡_, subst}
 use mir.Syntax.{w32}
 use mir.Val.{Fits}
 use lib.ListN.{length}

@@ -11,7 +11,6 @@ use Rattle.metroid_channel.proofs.channel.Stepped.{Stepped, begins, goe
 use Rattle.metroid_channel.specs.declared.channel.Cursor.{Cursor}
 use Rattle.metroid_channel.specs.declared.channel.Step.{Step}
 use Rattle.metroid_channel.specs.declared.channel.Stop.{Stop}
-use Rattle.metroid_channel.specs.declared.channel.Reading.{Reading}
 use Rattle.metroid_format.specs.declared.command.Finish.{Finish}
 
 abbrev pub StopWithin : ℕ → Stop → Type 0

@@ -1,5 +1,5 @@
 -- A verdict's refusal is one of 1 to 15, and its place one of the four channels and an offset in its data or at its end.
-use Prim.Native.Nat.{ℕ, _+_, _≤_, _<_}
+use Prim.Native.Nat.{ℕ, _+_, _<_}
 use mathlib.Core.List.{List, [], _∷_}
 use mathlib.Core.Path.{_≡_}
 use native.Mathlib.Omega.{arith}
@@ -8,7 +8,6 @@ use lib.Dec.{leb, eqb}
 use lib.ListN.{length}
 use Rattle.metroid_format.specs.Command.{data-limit}
 use Rattle.metroid_format.specs.Header.{openTrack}
-use Rattle.metroid_channel.specs.Timeline.{timelineOf}
 use Rattle.metroid_format.proofs.Picks.{by-test}
 use Rattle.metroid_format.proofs.header.Opening.{opens, unopened}
 use Rattle.metroid_format.proofs.command.Laws.{FinishWithin}
@@ -22,7 +21,6 @@ use Rattle.metroid_player.specs.Frame.{channelSource}
 use Rattle.metroid_player.proofs.frame.Counts.{source-within}
 use Rattle.metroid_check.specs.Verdict.{stopOf, sooner, soonestFrom, verdictBy, verdictOf, Placed}
 use Rattle.metroid_check.specs.declared.verdict.Soonest.{Soonest}
-use Rattle.metroid_check.specs.declared.verdict.Verdict.{Verdict}
 
 -- one of the channels below n
 abbrev Below : ℕ → Soonest → Type 0

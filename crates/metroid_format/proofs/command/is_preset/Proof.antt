@@ -1,4 +1,3 @@
-use borrow.Author.Needs.{needs}
 use Rattle.metroid_format.specs.Command.{isPreset}
 use Rattle.metroid_format.proofs.Picks.{picks}
 use Rattle.metroid_format.proofs.command.is_preset.Statement.{statement}
