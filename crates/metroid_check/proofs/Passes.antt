@@ -4,8 +4,10 @@ use mathlib.Core.List.{List}
 use mathlib.Core.Path.{_≡_, refl, sym, ap, _∙_}
 use native.Mathlib.Omega.{arith}
 use borrow.Author.Tests.{lt-ltb, le-ltb}
+use lib.Dec.{ltb}
+use Rattle.metroid_format.proofs.Picks.{by-test}
 use Rattle.metroid_format.specs.declared.bank.Places.{Places}
-use Rattle.metroid_check.specs.Run.{nothing, shown, End, ofStart, ofData, runOf, firstEnd, firstRefusal}
+use Rattle.metroid_check.specs.Run.{nothing, shown, End, ofStart, ofFrame, ofData, runOf, firstEnd, firstRefusal}
 use Rattle.metroid_check.specs.Verdict.{verdictOf}
 use Rattle.metroid_check.specs.Demand3.{ifReached, endForeseen, refusalForeseen}
 use Rattle.metroid_check.specs.declared.verdict.Verdict.{Verdict}
@@ -73,3 +75,14 @@ module _ (bank : List ℕ) (places : Places) (track : ℕ) where
   -- the check passes a track exactly when no run of any length is refused
   pub passes-exactly : (Passes → NeverRefused) × (NeverRefused → Passes)
   passes-exactly = ((λ p n. shows-refusal (p .2) n), (λ never. never-passes never _ refl))
+
+  -- a run's first refusal in a frame is one of 10 to 15: 1 to 9 are start's, and the records of a run pass 16
+  pub frames-fault-only : (n number frame : ℕ) → firstRefusal (runOf bank places track n) ≡ shown (ofFrame number frame) → ⊥
+  frames-fault-only n number frame e = by (verdictOf bank places track) (sym e ∙ demand3 bank places track n .refusal)
+    where
+      by : (verdict : Verdict) → shown (ofFrame number frame) ≡ refusalForeseen n verdict → ⊥
+      by (Verdict.Pass at channel) e = shown-not _ (sym e)
+      by (Verdict.Refused m) e = let z : _≡_ {A = ℕ} 0 1 = cc in omega arith
+      by (Verdict.Fault m channel at reached) e =
+          by-test (λ s. shown (ofFrame number frame) ≡ s → ⊥) (ltb reached n)
+          (λ _ e. let z : _≡_ {A = ℕ} 0 1 = cc in omega arith) (λ _ e. shown-not _ (sym e)) e
