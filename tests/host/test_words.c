@@ -11,46 +11,67 @@ static size_t random_room(size_t size)
     return one_in(2) ? LONGEST : below((uint32_t)size + 2);
 }
 
+/* What a call tells, as found and as wanted, of which it is lent some words. */
+typedef struct {
+    uint32_t found[TOLD], wanted[TOLD];
+    size_t room;
+} told_words;
+
+static told_words lend_told(void)
+{
+    told_words told = { .room = below(TOLD) };
+    fill_pattern(told.found, sizeof told.found);
+    fill_pattern(told.wanted, sizeof told.wanted);
+    return told;
+}
+
+static void want_told(told_words *told, size_t value)
+{
+    if (told->room > 0)
+        told->wanted[0] = (uint32_t)value;
+}
+
+static void compare_answer(uint32_t number, uint32_t wanted_number, const told_words *told)
+{
+    count_number(number);
+    EXPECT(number == wanted_number);
+    EXPECT(memcmp(told->found, told->wanted, sizeof told->found) == 0);
+}
+
+/* 0 is melodic, any other number noise. */
+static uint32_t any_number_of(int noise)
+{
+    return noise ? 1 + below(UINT32_MAX) : 0;
+}
+
 static void compare_reading(int noise, const uint8_t *bytes, size_t size, size_t room)
 {
     uint16_t found[LENT], wanted[LENT];
-    uint32_t told[TOLD], wanted_told[TOLD];
+    told_words told = lend_told();
     size_t count, offset;
-    ref_kind kind = noise ? REF_NOISE : REF_MELODIC;
-    size_t told_room = below(TOLD);
     fill_pattern(found, sizeof found);
     fill_pattern(wanted, sizeof wanted);
-    fill_pattern(told, sizeof told);
-    fill_pattern(wanted_told, sizeof wanted_told);
-    uint32_t wanted_number = ref_read_words(kind, bytes, size, wanted, room, &count, &offset);
-    if (told_room > 0 && wanted_number != HEM_NO_ROOM)
-        wanted_told[0] = (uint32_t)(wanted_number == HEM_OK ? count : offset);
-    uint32_t number = hem_read_words(noise ? 1 + below(UINT32_MAX) : 0, bytes, size, found, room, told, told_room);
-    count_number(number);
-    EXPECT(number == wanted_number);
+    uint32_t wanted_number = ref_read_words(noise ? REF_NOISE : REF_MELODIC, bytes, size, wanted, room, &count, &offset);
+    if (wanted_number != HEM_NO_ROOM)
+        want_told(&told, wanted_number == HEM_OK ? count : offset);
+    compare_answer(hem_read_words(any_number_of(noise), bytes, size, found, room, told.found, told.room), wanted_number,
+                   &told);
     EXPECT(memcmp(found, wanted, sizeof found) == 0);
-    EXPECT(memcmp(told, wanted_told, sizeof told) == 0);
 }
 
 static void compare_writing(int noise, const uint16_t *words, size_t size, size_t room)
 {
     uint8_t found[LENT], wanted[LENT];
-    uint32_t told[TOLD], wanted_told[TOLD];
+    told_words told = lend_told();
     size_t count;
-    ref_kind kind = noise ? REF_NOISE : REF_MELODIC;
-    size_t told_room = below(TOLD);
     fill_pattern(found, sizeof found);
     fill_pattern(wanted, sizeof wanted);
-    fill_pattern(told, sizeof told);
-    fill_pattern(wanted_told, sizeof wanted_told);
-    uint32_t wanted_number = ref_write_words(kind, words, size, wanted, room, &count);
-    if (told_room > 0 && wanted_number == HEM_OK)
-        wanted_told[0] = (uint32_t)count;
-    uint32_t number = hem_write_words(noise ? 1 + below(UINT32_MAX) : 0, words, size, found, room, told, told_room);
-    count_number(number);
-    EXPECT(number == wanted_number);
+    uint32_t wanted_number = ref_write_words(noise ? REF_NOISE : REF_MELODIC, words, size, wanted, room, &count);
+    if (wanted_number == HEM_OK)
+        want_told(&told, count);
+    compare_answer(hem_write_words(any_number_of(noise), words, size, found, room, told.found, told.room), wanted_number,
+                   &told);
     EXPECT(memcmp(found, wanted, sizeof found) == 0);
-    EXPECT(memcmp(told, wanted_told, sizeof told) == 0);
 }
 
 /* Every word alone and before an end, and all data of one or two bytes, alone and before an end. */

@@ -6,6 +6,7 @@ use metroid_player::event::Sound;
 use metroid_player::frame::Answer;
 use metroid_player::frame::Started;
 use metroid_player::record::Player;
+use metroid_player::release;
 use metroid_player::release::Release;
 ghost use mathlib.Core.Path.{_≡_};
 ghost use mathlib.Core.List.{_∷_, _++_};
@@ -17,10 +18,13 @@ ghost use Rattle.metroid_player.specs.Frame.{startOf, frameOf, answerNumber, an
 ghost use Rattle.hemgosling.specs.Places.{placesOf};
 ghost use Rattle.hemgosling.specs.Play.{Starts, Steps, steppedOf};
 
-// Never, where a release is told as a number.
-const NEVER: u32 = 255;
+// Where the commands read stand in an answer.
+const COUNTS: usize = 1;
 
-// Where the words of the first channel stand in an answer.
+// Where the channel and the offset of a refusal stand.
+const PLACE: usize = 5;
+
+// Where the words of the first channel stand.
 const EVENTS: usize = 7;
 
 // The words of a channel.
@@ -35,10 +39,7 @@ pub struct Stepped {
 fn release_word(release: Release) -> u32
     ensures { λ r. ⌜ r ≡ toldRelease release ⌝ }
 {
-    match release {
-        Release::After(quarters) => quarters.count as u32,
-        Release::Never => NEVER,
-    }
+    release::quarter_frames(release) as u32
 }
 
 fn flag(b: bool) -> u32
@@ -127,8 +128,8 @@ fn put_answer(out: &mut [u32], answer: Answer, counts: [u32; 4], events: [Event;
     ensures { λ _. ⌜ now (out .exit) ≡ sets (now (out .entry)) 0 (answerKind answer ∷ counts ++ (answerPlace answer ++ toldEvents events)) ⌝ }
 {
     buffer::fill(out, 0, &[kind_of(answer)]);
-    buffer::fill(out, 1, &counts);
-    buffer::fill(out, 5, &place_of(answer));
+    buffer::fill(out, COUNTS, &counts);
+    buffer::fill(out, PLACE, &place_of(answer));
     put_events(out, events);
 }
 

@@ -80,8 +80,9 @@ pub record Settled : Type 0 where
   pub counts : List ℕ
   pub channels : List Channel
 
-abbrev pub settled : Answer → Settled
-settled answer = record { answer = answer; events = []; counts = []; channels = [] }
+-- the last channel reached, or none
+abbrev pub settled : Answer → List ℕ → Settled
+settled answer counts = record { answer = answer; events = []; counts = counts; channels = [] }
 
 -- a channel that goes on, with those after it
 abbrev pub settleOn : Event → Channel → ℕ → Settled → Settled
@@ -97,31 +98,29 @@ abbrev pub settleBy : List ℕ → Track → ℕ → Voice → Turn → Turned �
 settleBy bank track i voice t Turned.Off rest = settleOn offEvent (t .channel) (t .count) rest
 settleBy bank track i voice t Turned.Plays rest =
     settleOn (eventOf bank track i voice (t .channel) (t .began)) (oneOff (t .channel)) (t .count) rest
-settleBy bank track i voice t Turned.End rest =
-    record { answer = Answer.End; events = []; counts = t .count ∷ []; channels = [] }
-settleBy bank track i voice t (Turned.Refused number at) rest =
-    record { answer = Answer.Fault number i at; events = []; counts = t .count ∷ []; channels = [] }
+settleBy bank track i voice t Turned.End rest = settled Answer.End (t .count ∷ [])
+settleBy bank track i voice t (Turned.Refused number at) rest = settled (Answer.Fault number i at) (t .count ∷ [])
 
 abbrev pub settleTurn : List ℕ → Track → ℕ → Voice → Turn → Settled → Settled
 settleTurn bank track i voice t rest = settleBy bank track i voice t (t .turned) rest
 
 unfoldable pub settleFrom : List ℕ → Track → ℕ → List Voice → List Channel → Settled
-settleFrom bank track i [] cs = settled Answer.Events
-settleFrom bank track i (v ∷ vs) [] = settled Answer.Events
+settleFrom bank track i [] cs = settled Answer.Events []
+settleFrom bank track i (v ∷ vs) [] = settled Answer.Events []
 settleFrom bank track i (v ∷ vs) (c ∷ cs) =
     settleTurn bank track i v (turnOf bank track v c) (settleFrom bank track (i + 1) vs cs)
 
 -- no events
-abbrev pub silent : Answer → List ℕ → Player → Framed
-silent answer counts player = record { answer = answer; events = four offEvent; counts = counts; player = player }
+abbrev pub eventless : Answer → List ℕ → Player → Framed
+eventless answer counts player = record { answer = answer; events = four offEvent; counts = counts; player = player }
 
 -- no commands read, and the record as it was given
 abbrev pub unplayed : Answer → Player → Framed
-unplayed answer player = silent answer (four 0) player
+unplayed answer player = eventless answer (four 0) player
 
 -- a frame broken off counts what the channels reached have read
 abbrev pub brokenOff : Answer → List ℕ → Player → Framed
-brokenOff answer reached player = silent answer (sets (four 0) 0 reached) player
+brokenOff answer reached player = eventless answer (sets (four 0) 0 reached) player
 
 abbrev pub framedBy : Track → Player → Settled → Answer → Framed
 framedBy track player s Answer.Events = record {
@@ -196,8 +195,8 @@ toldStarted s = record { number = s .number; values = [] }
 
 -- a refusal that names no place: 1 to 9, and 16
 pub data Unplaced : ℕ → Type 0 where
-  unopened : {number : ℕ} → Unopened number → Unplaced number
-  no-record : Unplaced invalid-record
+  of-track : {number : ℕ} → Unopened number → Unplaced number
+  of-record : Unplaced invalid-record
 
 -- a refusal is one of document 01's table; the place of 10 to 15 is one of the first n channels, and an offset in its data or at its
 -- end (proofs/frame/Place.antt: n is 4)

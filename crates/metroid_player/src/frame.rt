@@ -20,7 +20,7 @@ ghost use Prim.Native.Nat.{_≤_};
 ghost use Rattle.metroid_format.specs.Command.{data-limit};
 ghost use Rattle.metroid_channel.specs.Channel.{readUntil};
 ghost use Rattle.metroid_player.specs.Record.{cursorOf, channelFits, channelsFit};
-ghost use Rattle.metroid_player.specs.Frame.{channelSource, begun, oneOff, turnOfReading, turnOf, silent, settleFrom, framed, frameOfTrack, frameOf, startOf, toldFramed, toldStarted};
+ghost use Rattle.metroid_player.specs.Frame.{channelSource, begun, oneOff, turnOfReading, turnOf, eventless, settleFrom, framed, frameOfTrack, frameOf, startOf, toldFramed, toldStarted};
 ghost use Rattle.metroid_format.specs.Number.{Answers};
 
 // What a channel does in a frame.
@@ -193,7 +193,7 @@ fn channels_fit(voices: [Voice; 4], channels: [Channel; 4]) -> bool
 }
 
 fn without_events(answer: Answer, counts: [u32; 4], player: Player) -> Framed
-    ensures { λ r. ⌜ r ≡ silent answer counts player ⌝ }
+    ensures { λ r. ⌜ r ≡ eventless answer counts player ⌝ }
 {
     let off = event::off();
     Framed {

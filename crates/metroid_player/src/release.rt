@@ -3,7 +3,10 @@ use metroid_channel::channel::Frames;
 use metroid_channel::channel::QuarterFrames;
 use metroid_format::field;
 ghost use mathlib.Core.Path.{_≡_};
-ghost use Rattle.metroid_player.specs.Release.{dynamic, releaseOf};
+ghost use Rattle.metroid_player.specs.Release.{dynamic, releaseOf, toldRelease};
+
+// Never, where a release is told as a number.
+const NEVER: u8 = 255;
 
 pub enum Release {
     After(QuarterFrames),
@@ -39,4 +42,14 @@ pub(crate) fn release_of(byte: u8, length: Frames) -> Release
     }
     let after = dynamic_of(length);
     Release::After(after)
+}
+
+// A release as a number of quarter-frames.
+pub fn quarter_frames(release: Release) -> u8
+    ensures { λ r. ⌜ r ≡ toldRelease release ⌝ }
+{
+    match release {
+        Release::After(after) => after.count,
+        Release::Never => NEVER,
+    }
 }

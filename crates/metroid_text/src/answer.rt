@@ -6,26 +6,13 @@ use metroid_player::event::Event;
 use metroid_player::event::Sound;
 use metroid_player::frame::Answer;
 use metroid_player::frame::Framed;
-use metroid_player::release::Release;
-ghost use mathlib.Core.Path.{_≡_};
-ghost use Rattle.metroid_player.specs.Release.{toldRelease};
-
-const NEVER: u8 = 255;
+use metroid_player::release;
 
 const OFF: u8 = 0;
 
 const REST: u8 = 1;
 
 const NOTE: u8 = 2;
-
-pub fn quarter_frames(release: Release) -> u8
-    ensures { λ r. ⌜ r ≡ toldRelease release ⌝ }
-{
-    match release {
-        Release::After(after) => after.count,
-        Release::Never => NEVER,
-    }
-}
 
 fn print_sound(kind: u8, began: bool, first: u16, second: u16, third: u8) {
     io::write_all(1, b" |");
@@ -42,11 +29,23 @@ fn print_event(event: Event) {
     match sound {
         Sound::Off => print_sound(OFF, began, 0, 0, 0),
         Sound::SquareRest(ctrl1) => print_sound(REST, began, 0, 0, ctrl1),
-        Sound::TriangleRest(release) => print_sound(REST, began, 0, 0, quarter_frames(release)),
+        Sound::TriangleRest(release) => print_sound(
+            REST,
+            began,
+            0,
+            0,
+            release::quarter_frames(release),
+        ),
         Sound::NoiseRest => print_sound(REST, began, 0, 0, 0),
         Sound::Square(key, period, ctrl1) => print_sound(NOTE, began, key as u16, period, ctrl1),
         Sound::Triangle(key, period, release) => {
-            print_sound(NOTE, began, key as u16, period, quarter_frames(release))
+            print_sound(
+                NOTE,
+                began,
+                key as u16,
+                period,
+                release::quarter_frames(release),
+            )
         }
         Sound::Noise(first, second, third) => {
             print_sound(NOTE, began, first as u16, second as u16, third)

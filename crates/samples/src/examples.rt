@@ -10,6 +10,7 @@ use metroid_player::event::Event;
 use metroid_player::event::Sound;
 use metroid_player::frame::Framed;
 use metroid_player::record::Player;
+use metroid_player::release;
 use metroid_text::answer;
 use metroid_text::number;
 
@@ -132,7 +133,7 @@ fn show_sound(frame: u32, sound: Sound) {
         Sound::TriangleRest(_) => show_rest(frame),
         Sound::NoiseRest => show_rest(frame),
         Sound::Square(_, _, _) => new_line(),
-        Sound::Triangle(key, _, release) => show_note(frame, key, answer::quarter_frames(release)),
+        Sound::Triangle(key, _, release) => show_note(frame, key, release::quarter_frames(release)),
         Sound::Noise(_, _, _) => new_line(),
     }
 }

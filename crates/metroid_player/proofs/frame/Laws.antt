@@ -1,7 +1,7 @@
 -- The steps of the frame rule, as the code takes them.
 use Prim.Native.Nat.{ℕ, _+_, _-_, _≤_, _<_}
 use mathlib.Core.Bool.{Bool, true, false}
-use mathlib.Core.List.{List, _∷_}
+use mathlib.Core.List.{List, [], _∷_}
 use mathlib.Core.Path.{_≡_, refl, sym, ap, _∙_}
 use native.Mathlib.Omega.{arith}
 use native.Mathlib.Numerals.{add-one}
@@ -23,7 +23,7 @@ use Rattle.metroid_format.proofs.Picks.{by-test, false-true, pick-true, pick-fa
 use Rattle.metroid_channel.proofs.channel.ReadBound.{Placed, reads, reads-placed}
 use Rattle.metroid_player.specs.Record.{four, endedPlayer, cursorOf, channelFits, channelsFit}
 use Rattle.metroid_player.specs.Event.{offEvent, eventOf}
-use Rattle.metroid_player.specs.Frame.{channelSource, begun, turnBy, oneOff, turnOfReading, turnOf, Settled, settled, settleOn, settleBy, settleTurn, settleFrom, silent, framed}
+use Rattle.metroid_player.specs.Frame.{channelSource, begun, turnBy, oneOff, turnOfReading, turnOf, Settled, settled, settleOn, settleBy, settleTurn, settleFrom, eventless, framed}
 use Rattle.metroid_player.specs.declared.record.Channel.{Channel}
 use Rattle.metroid_player.specs.declared.event.Event.{Event}
 use Rattle.metroid_player.specs.declared.frame.Turned.{Turned}
@@ -172,7 +172,7 @@ module _ (bank : List ℕ) (track : Track) (player : Player) where
   }
 
   module _ (events : List Event) (counts : List ℕ) (channels : List Channel) (i : ℕ) (m : Settling events counts channels i) where
-    settled-all : 4 ≤ i → settledFrom i ≡ settled Answer.Events
+    settled-all : 4 ≤ i → settledFrom i ≡ settled Answer.Events []
     unfolding settleFrom
     settled-all h =
         let v : length (track .voices) ≤ i = omega (arith, m .voices-four) in
@@ -261,7 +261,7 @@ module _ (bank : List ℕ) (track : Track) (player : Player) where
         settling-plays e event f next g = settling-on event next (settled-by _ e ∙ rw (f, g))
 
         pub settles-end : t .turned ≡ Turned.End → (ended : Player) → ended ≡ endedPlayer (track .restart)
-            → (f : Framed) → f ≡ silent Answer.End (set counts i (t .count)) ended → f ≡ framed track player whole
+            → (f : Framed) → f ≡ eventless Answer.End (set counts i (t .count)) ended → f ≡ framed track player whole
         settles-end e ended d f g =
             let s = settled-by _ e in
             let a : whole .answer ≡ Answer.End = m .same-answer ∙ rw s in
@@ -269,7 +269,7 @@ module _ (bank : List ℕ) (track : Track) (player : Player) where
             g ∙ rw (a, n, d)
 
         pub settles-fault : (number at : ℕ) → t .turned ≡ Turned.Refused number at
-            → (f : Framed) → f ≡ silent (Answer.Fault number i at) (set counts i (t .count)) player → f ≡ framed track player whole
+            → (f : Framed) → f ≡ eventless (Answer.Fault number i at) (set counts i (t .count)) player → f ≡ framed track player whole
         settles-fault number at e f g =
             let s = settled-by _ e in
             let a : whole .answer ≡ Answer.Fault number i at = m .same-answer ∙ rw s in

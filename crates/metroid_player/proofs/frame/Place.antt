@@ -20,7 +20,7 @@ use Rattle.metroid_format.specs.declared.header.Track.{Track}
 use Rattle.metroid_channel.specs.declared.channel.Cursor.{Cursor}
 use Rattle.metroid_channel.specs.declared.channel.Stop.{Stop}
 use Rattle.metroid_player.specs.Record.{cursorOf, channelFits, channelsFit}
-use Rattle.metroid_player.specs.Frame.{channelSource, turnBy, turnOf, Settled, settleBy, settleFrom, framedBy, frameOfTrack, frameOf, Unplaced, no-record, Placed}
+use Rattle.metroid_player.specs.Frame.{channelSource, turnBy, turnOf, Settled, settleBy, settleFrom, framedBy, frameOfTrack, frameOf, of-track, of-record, Placed}
 use Rattle.metroid_player.specs.declared.record.Channel.{Channel}
 use Rattle.metroid_player.specs.declared.record.Player.{Player}
 use Rattle.metroid_player.specs.declared.frame.Turned.{Turned}
@@ -90,11 +90,11 @@ module _ (bank : List ℕ) (track : Track) where
       let s = settleFrom bank track 0 (track .voices) (player .channels) in
       framed-placed player s (s .answer) (settle-placed 4 0 (track .voices) (player .channels) (omega arith) f)) λ _.
       tt) λ _.
-      no-record
+      of-record
 
 pub frame-placed : (bank : List ℕ) (places : Places) (track : ℕ) (player : Player) → Placed 4 (frameOf bank places track player .answer)
 unfolding frameOf
 frame-placed bank places track player =
     by-test (λ (f : Framed). Placed 4 (f .answer)) (eqb (openTrack bank places track .number) 0)
     (λ e. track-placed bank (openTrack bank places track .track) player (opens bank places track (eqb-true _ _ e) .four)) λ e.
-    Unplaced.unopened (unopened bank places track (eqb-false _ _ e))
+    of-track (unopened bank places track (eqb-false _ _ e))
