@@ -3,7 +3,7 @@ use Prim.Native.Nat.{ℕ, _≤_, _<_}
 use native.Mathlib.Omega.{arith}
 use mir.Syntax.{w32}
 use mir.Val.{Fits}
-use Rattle.metroid_format.specs.Number.{FaultWithin}
+use Rattle.engine_base.specs.Refusal.{FaultWithin}
 use Rattle.metroid_format.specs.Command.{data-limit}
 
 pub channel-fits : {i : ℕ} → i < 4 → Fits w32 i

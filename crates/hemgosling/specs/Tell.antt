@@ -3,7 +3,7 @@ use Prim.Native.Nat.{ℕ}
 use mathlib.Core.List.{List}
 use mathlib.Core.Path.{_≡_}
 use lib.Seq.{sets}
-use Rattle.metroid_format.specs.Number.{Told}
+use Rattle.engine_base.specs.Told.{Told}
 
 -- its number, and its values from the start of the lent buffer as far as they fit, the rest of it unchanged
 pub record Tells (answer : Told) (before : List ℕ) (number : ℕ) (after : List ℕ) : Type 0 where

@@ -1,26 +1,26 @@
 // The check, for a host.
-use crate::buffer;
 use crate::places;
+use engine_base::buffer;
 use metroid_check::verdict;
 use metroid_check::verdict::Verdict;
-ghost use Rattle.metroid_check.specs.Verdict.{toldVerdict, Placed};
+ghost use Rattle.metroid_check.specs.Verdict.{toldVerdict, VerdictWithin};
 ghost use Rattle.hemgosling.specs.Places.{placesOf};
 ghost use Rattle.hemgosling.specs.Tell.{Tells};
 ghost use Rattle.hemgosling.specs.Judge.{Judges};
 
 // The number, and the values into the buffer as far as they fit.
 fn tell(verdict: Verdict, out: &mut [u32]) -> u32
-    requires { ⌜ Placed verdict ⌝ }
+    requires { ⌜ VerdictWithin verdict ⌝ }
     ensures { λ r. ⌜ Tells (toldVerdict verdict) (now (out .entry)) r (now (out .exit)) ⌝ }
 {
     match verdict {
         Verdict::Pass(frame, channel) => {
-            buffer::fill(out, 0, &[frame, channel as u32]);
+            buffer::fill32(out, 0, &[frame, channel as u32]);
             0
         }
         Verdict::Refused(number) => number,
         Verdict::Fault(number, channel, at, frame) => {
-            buffer::fill(out, 0, &[channel as u32, at as u32, frame]);
+            buffer::fill32(out, 0, &[channel as u32, at as u32, frame]);
             number
         }
     }

@@ -1,6 +1,6 @@
 // Start and frame, for a host that lends its one record.
-use crate::buffer;
 use crate::places;
+use engine_base::buffer;
 use metroid_player::event::Event;
 use metroid_player::event::Sound;
 use metroid_player::frame::Answer;
@@ -11,10 +11,10 @@ use metroid_player::release::Release;
 ghost use mathlib.Core.Path.{_≡_};
 ghost use mathlib.Core.List.{_∷_, _++_};
 ghost use lib.Seq.{sets};
-ghost use Rattle.metroid_format.specs.Pick.{pick};
+ghost use Rattle.engine_base.specs.Pick.{pick};
 ghost use Rattle.metroid_player.specs.Release.{toldRelease};
 ghost use Rattle.metroid_player.specs.Event.{toldEvent};
-ghost use Rattle.metroid_player.specs.Frame.{startOf, frameOf, answerNumber, answerKind, answerPlace, toldEvents, toldFramed, Placed};
+ghost use Rattle.metroid_player.specs.Frame.{startOf, frameOf, answerNumber, answerKind, answerPlace, toldEvents, toldFramed, AnswerWithin};
 ghost use Rattle.hemgosling.specs.Places.{placesOf};
 ghost use Rattle.hemgosling.specs.Play.{Starts, Steps, steppedOf};
 
@@ -98,7 +98,7 @@ fn kind_of(answer: Answer) -> u32
 }
 
 fn place_of(answer: Answer) -> [u32; 2]
-    requires { ⌜ Placed 4 answer ⌝ }
+    requires { ⌜ AnswerWithin 4 answer ⌝ }
     ensures { λ r. ⌜ r ≡ answerPlace answer ⌝ }
 {
     match answer {
@@ -117,19 +117,19 @@ fn put_events(out: &mut [u32], events: [Event; 4])
     let mut i: usize = 0;
     while i < 4 {
         let event = events[i];
-        buffer::fill(out, EVENTS + EVENT_WORDS * i, &event_words(event));
+        buffer::fill32(out, EVENTS + EVENT_WORDS * i, &event_words(event));
         i += 1;
     }
 }
 
 // The kind of the answer, the commands read, the place and the events.
 fn put_answer(out: &mut [u32], answer: Answer, counts: [u32; 4], events: [Event; 4])
-    requires { ⌜ Placed 4 answer ⌝ }
+    requires { ⌜ AnswerWithin 4 answer ⌝ }
     ensures { λ _. ⌜ now (out .exit) ≡ sets (now (out .entry)) 0 (answerKind answer ∷ counts ++ (answerPlace answer ++ toldEvents events)) ⌝ }
 {
-    buffer::fill(out, 0, &[kind_of(answer)]);
-    buffer::fill(out, COUNTS, &counts);
-    buffer::fill(out, PLACE, &place_of(answer));
+    buffer::fill32(out, 0, &[kind_of(answer)]);
+    buffer::fill32(out, COUNTS, &counts);
+    buffer::fill32(out, PLACE, &place_of(answer));
     put_events(out, events);
 }
 

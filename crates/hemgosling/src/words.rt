@@ -1,5 +1,6 @@
 // Commands as words, for a host that edits tracks.
-use crate::buffer;
+use engine_base::buffer;
+use engine_base::refusal;
 use metroid_format::command::Kind;
 use metroid_format::words;
 use metroid_format::words::Reading;
@@ -26,14 +27,14 @@ fn tell_reading(reading: Reading, out: &mut [u32]) -> u32
 {
     match reading {
         Reading::Wrote(count) => {
-            buffer::fill(out, 0, &[count as u32]);
+            buffer::fill32(out, 0, &[count as u32]);
             0
         }
         Reading::Refused(number, at) => {
-            buffer::fill(out, 0, &[at as u32]);
+            buffer::fill32(out, 0, &[at as u32]);
             number
         }
-        Reading::NoRoom => words::NO_ROOM,
+        Reading::NoRoom => refusal::NO_ROOM,
     }
 }
 
@@ -43,11 +44,11 @@ fn tell_writing(writing: Writing, out: &mut [u32]) -> u32
 {
     match writing {
         Writing::Wrote(count) => {
-            buffer::fill(out, 0, &[count as u32]);
+            buffer::fill32(out, 0, &[count as u32]);
             0
         }
-        Writing::InvalidWord => words::INVALID_WORD,
-        Writing::NoRoom => words::NO_ROOM,
+        Writing::InvalidWord => refusal::INVALID_WORD,
+        Writing::NoRoom => refusal::NO_ROOM,
     }
 }
 

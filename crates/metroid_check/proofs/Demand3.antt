@@ -6,7 +6,7 @@ use mathlib.Core.Path.{_≡_, refl, ap, _∙_}
 use native.Mathlib.Nat.{zero-add}
 use borrow.Author.Tests.{eq-eqb, ne-eqb, eqb-true, eqb-false}
 use lib.Dec.{eqb}
-use Rattle.metroid_format.proofs.Picks.{answers}
+use Rattle.engine_base.proofs.Picks.{answers}
 use Rattle.metroid_format.specs.Header.{openTrack}
 use Rattle.metroid_format.specs.declared.bank.Places.{Places}
 use Rattle.metroid_format.specs.declared.command.Finish.{Finish}
@@ -15,7 +15,7 @@ use Rattle.metroid_player.specs.Counts.{most-commands}
 use Rattle.metroid_player.specs.Frame.{startOf, frameOf, frameOfTrack}
 use Rattle.metroid_player.specs.declared.record.Player.{Player}
 use Rattle.metroid_player.proofs.frame.Counts.{none-most}
-use Rattle.metroid_player.proofs.frame.Starting.{aheadOf, starts, opened-frame, unopened-frame}
+use Rattle.metroid_check.proofs.ahead.Starting.{aheadOf, starts, opened-frame, unopened-frame}
 use Rattle.metroid_check.specs.Run.{
   nothing,
   framesFrom,

@@ -6,16 +6,16 @@ use mathlib.Core.Path.{_≡_}
 use native.Mathlib.Omega.{arith}
 use borrow.Author.Tests.{leb-true, leb-false}
 use lib.Dec.{leb}
-use Rattle.metroid_format.specs.Pick.{pick}
-use Rattle.metroid_format.proofs.Picks.{by-test}
-use Rattle.metroid_channel.specs.Timeline.{timelineOf}
+use Rattle.engine_base.specs.Pick.{pick}
+use Rattle.engine_base.proofs.Picks.{by-test}
+use Rattle.metroid_format.specs.Timeline.{timelineOf}
 use Rattle.metroid_format.specs.declared.header.Voice.{Voice}
 use Rattle.metroid_format.specs.declared.header.Track.{Track}
 use Rattle.metroid_format.specs.declared.command.Finish.{Finish}
-use Rattle.metroid_player.specs.Frame.{channelSource}
-use Rattle.metroid_player.proofs.frame.Settling.{Ahead, nothing, stop}
-use Rattle.metroid_player.proofs.frame.Starting.{SomeStop, aheadOf}
-use Rattle.metroid_player.proofs.frame.Foreseen.{NoneBefore, Least}
+use Rattle.metroid_format.specs.Channel.{channelSource}
+use Rattle.metroid_check.proofs.ahead.Settling.{Ahead, nothing, stop}
+use Rattle.metroid_check.proofs.ahead.Starting.{SomeStop, aheadOf}
+use Rattle.metroid_check.proofs.ahead.Foreseen.{NoneBefore, Least}
 use Rattle.metroid_check.specs.Verdict.{stopOf, sooner, soonestFrom}
 use Rattle.metroid_check.specs.declared.verdict.Soonest.{Soonest}
 

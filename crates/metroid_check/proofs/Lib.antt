@@ -1,3 +1,4 @@
+pub mod ahead
 pub mod Found
 pub mod Run
 pub mod Demand3

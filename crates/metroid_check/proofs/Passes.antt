@@ -5,7 +5,7 @@ use mathlib.Core.Path.{_≡_, refl, sym, ap, _∙_}
 use native.Mathlib.Omega.{arith}
 use borrow.Author.Tests.{lt-ltb, le-ltb}
 use lib.Dec.{ltb}
-use Rattle.metroid_format.proofs.Picks.{by-test}
+use Rattle.engine_base.proofs.Picks.{by-test}
 use Rattle.metroid_format.specs.declared.bank.Places.{Places}
 use Rattle.metroid_check.specs.Run.{nothing, shown, End, ofStart, ofFrame, ofData, runOf, firstEnd, firstRefusal}
 use Rattle.metroid_check.specs.Verdict.{verdictOf}

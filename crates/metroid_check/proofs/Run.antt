@@ -9,17 +9,17 @@ use lib.Dec.{leb·zero, leb·suc-zero, leb·suc-suc}
 use Rattle.metroid_format.specs.declared.header.Track.{Track}
 use Rattle.metroid_format.specs.declared.command.Finish.{Finish}
 use Rattle.metroid_player.specs.Record.{endedPlayer}
-use Rattle.metroid_player.specs.Counts.{most-commands, AtMost, lastCounted}
+use Rattle.metroid_player.specs.Counts.{most-commands, AtMost}
 use Rattle.metroid_player.specs.Frame.{frameOfTrack}
 use Rattle.metroid_player.specs.declared.record.Player.{Player}
 use Rattle.metroid_player.specs.declared.frame.Answer.{Answer}
 use Rattle.metroid_player.specs.declared.frame.Framed.{Framed}
 use Rattle.metroid_player.proofs.frame.Counts.{none-most}
-use Rattle.metroid_player.proofs.frame.Settling.{Ahead}
-use Rattle.metroid_player.proofs.frame.Framing.{InRun, run-counts}
-use Rattle.metroid_player.proofs.frame.Starting.{aheadOf, Starts, stays-stopped}
-use Rattle.metroid_player.proofs.frame.Foreseen.{Least, plays-before, stops-at}
-use Rattle.metroid_check.specs.Run.{Shown, nothing, shown, End, Refusal, ofData, framesFrom, endFrom, refusalFrom, ReadAtMost}
+use Rattle.metroid_check.proofs.ahead.Settling.{Ahead}
+use Rattle.metroid_check.proofs.ahead.Framing.{InRun, run-counts}
+use Rattle.metroid_check.proofs.ahead.Starting.{aheadOf, Starts, stays-stopped}
+use Rattle.metroid_check.proofs.ahead.Foreseen.{Least, plays-before, stops-at}
+use Rattle.metroid_check.specs.Run.{Shown, nothing, shown, End, Refusal, ofData, lastCounted, framesFrom, endFrom, refusalFrom, ReadAtMost}
 use Rattle.metroid_check.specs.Demand3.{ifReached}
 
 -- what is ahead of a run: its stop after so many frames, or, once it has stopped, nothing

@@ -3,9 +3,11 @@ use Prim.Native.Nat.{ℕ, _+_, _-_, _*_, _/_, _%_}
 use mathlib.Core.List.{List, [], _∷_, _++_, map}
 use mathlib.Core.Path.{_≡_, refl}
 use lib.ListN.{length, getD, replicate}
-use Rattle.metroid_format.specs.Number.{Told, invalid-command, invalid-note, past-lengths, no-length, past-data}
+use Rattle.engine_base.specs.Told.{Told}
+use Rattle.engine_base.specs.Refusal.{invalid-command, invalid-note, past-lengths, no-length, past-data}
 use Rattle.metroid_format.specs.Command.{isKey, isPreset, noteAfter, commandOf, commandAt}
-use Rattle.metroid_format.specs.Bank.{bank-start, bank-end, published, within, wordAt}
+use Rattle.metroid_format.specs.Bank.{bank-start, bank-end, published, within}
+use Rattle.engine_base.specs.Bytes.{wordAt}
 use Rattle.metroid_format.specs.Envelope.{envelopeAddress, envelopeEnds}
 use Rattle.metroid_format.specs.Header.{
   tablesFit,
@@ -26,8 +28,8 @@ use Rattle.metroid_format.specs.Header.{
   trackOf,
   openTrack,
 }
-use Rattle.metroid_channel.specs.Channel.{lengthFault, counterOf, playedAt, stepOf, readFrom, readUntil}
-use Rattle.metroid_channel.specs.Timeline.{passedOf, passFrom, timelineOf}
+use Rattle.metroid_format.specs.Channel.{lengthFault, counterOf, playedAt, stepOf, readFrom, readUntil}
+use Rattle.metroid_format.specs.Timeline.{passedOf, passFrom, timelineOf}
 use Rattle.metroid_player.specs.Release.{dynamic, releaseOf}
 use Rattle.metroid_player.specs.Ctrl1.{defaultCtrl1, combined, ctrl1At}
 use Rattle.metroid_player.specs.Record.{soundFits, channelFits}

@@ -3,8 +3,8 @@ use Prim.Native.Nat.{ℕ}
 use mathlib.Core.List.{List}
 use mathlib.Core.Path.{_≡_}
 use lib.Dec.{ltb}
-use Rattle.metroid_format.specs.Pick.{pick}
-use Rattle.metroid_format.specs.Number.{Answers}
+use Rattle.engine_base.specs.Pick.{pick}
+use Rattle.engine_base.specs.Told.{Answers}
 use Rattle.metroid_format.specs.declared.bank.Places.{Places}
 use Rattle.metroid_player.specs.Counts.{most-commands}
 use Rattle.metroid_check.specs.Run.{

@@ -2,9 +2,9 @@
 use Prim.Native.Nat.{ℕ, zero, suc, _+_}
 use mathlib.Core.List.{List, [], _∷_}
 use lib.Dec.{eqb}
-use Rattle.metroid_format.specs.Pick.{pick}
+use Rattle.engine_base.specs.Pick.{pick}
 use Rattle.metroid_format.specs.declared.bank.Places.{Places}
-use Rattle.metroid_player.specs.Counts.{AtMost, lastCounted}
+use Rattle.metroid_player.specs.Counts.{AtMost}
 use Rattle.metroid_player.specs.Frame.{startOf, frameOf}
 use Rattle.metroid_player.specs.declared.record.Player.{Player}
 use Rattle.metroid_player.specs.declared.frame.Answer.{Answer}
@@ -45,6 +45,14 @@ pub data Refusal : Type 0 where
   ofStart : ℕ → Refusal
   ofFrame : ℕ → ℕ → Refusal
   ofData : ℕ → ℕ → ℕ → ℕ → Refusal
+
+abbrev pub lastFrom : ℕ → ℕ → List ℕ → ℕ
+lastFrom i found [] = found
+lastFrom i found (n ∷ ns) = lastFrom (i + 1) (pick (eqb n 0) found i) ns
+
+-- the last in order with a count above 0
+abbrev pub lastCounted : List ℕ → ℕ
+lastCounted counts = lastFrom 0 0 counts
 
 abbrev pub endBy : ℕ → List ℕ → Shown End → Answer → Shown End
 endBy k counts later Answer.Events = later

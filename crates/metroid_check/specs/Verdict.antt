@@ -2,17 +2,18 @@
 use Prim.Native.Nat.{ℕ, _+_, _<_}
 use mathlib.Core.List.{List, [], _∷_}
 use lib.Dec.{leb, eqb}
-use Rattle.metroid_format.specs.Pick.{pick}
-use Rattle.metroid_format.specs.Number.{Told, no-channel, Unopened, FaultWithin}
+use Rattle.engine_base.specs.Pick.{pick}
+use Rattle.engine_base.specs.Told.{Told}
+use Rattle.engine_base.specs.Refusal.{no-channel, Unopened, FaultWithin}
 use Rattle.metroid_format.specs.Command.{data-limit}
 use Rattle.metroid_format.specs.Header.{openTrack}
-use Rattle.metroid_channel.specs.Timeline.{timelineOf}
+use Rattle.metroid_format.specs.Timeline.{timelineOf}
 use Rattle.metroid_format.specs.declared.bank.Places.{Places}
 use Rattle.metroid_format.specs.declared.header.Voice.{Voice}
 use Rattle.metroid_format.specs.declared.header.Track.{Track}
 use Rattle.metroid_format.specs.declared.command.Finish.{Finish}
-use Rattle.metroid_channel.specs.declared.timeline.Timeline.{Timeline}
-use Rattle.metroid_player.specs.Frame.{channelSource}
+use Rattle.metroid_format.specs.declared.timeline.Timeline.{Timeline}
+use Rattle.metroid_format.specs.Channel.{channelSource}
 use Rattle.metroid_check.specs.declared.verdict.Soonest.{Soonest}
 use Rattle.metroid_check.specs.declared.verdict.Verdict.{Verdict}
 
@@ -53,7 +54,7 @@ toldVerdict (Verdict.Refused number) = record { number = number; values = [] }
 toldVerdict (Verdict.Fault number channel at frame) = record { number = number; values = channel ∷ at ∷ frame ∷ [] }
 
 -- a refusal is one of 1 to 15; a verdict's place is one of four channels, and an offset in its data or at its end (proofs/verdict/Place.antt)
-abbrev pub Placed : Verdict → Type 0
-Placed (Verdict.Pass frame channel) = channel < 4
-Placed (Verdict.Refused number) = Unopened number
-Placed (Verdict.Fault number channel at frame) = (channel < 4) × FaultWithin data-limit number at
+abbrev pub VerdictWithin : Verdict → Type 0
+VerdictWithin (Verdict.Pass frame channel) = channel < 4
+VerdictWithin (Verdict.Refused number) = Unopened number
+VerdictWithin (Verdict.Fault number channel at frame) = (channel < 4) × FaultWithin data-limit number at

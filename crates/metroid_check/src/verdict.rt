@@ -1,6 +1,6 @@
 // Where a track ends or is refused, found from its bytes: no frame is run.
-use metroid_channel::timeline;
-use metroid_channel::timeline::Timeline;
+use engine_base::bytes;
+use engine_base::refusal;
 use metroid_format::bank;
 use metroid_format::bank::Places;
 use metroid_format::command::DATA_LIMIT;
@@ -8,9 +8,11 @@ use metroid_format::command::Finish;
 use metroid_format::header;
 use metroid_format::header::Track;
 use metroid_format::header::Voice;
+use metroid_format::timeline;
+use metroid_format::timeline::Timeline;
 ghost use mathlib.Core.Path.{_≡_};
-ghost use Rattle.metroid_channel.specs.Timeline.{timelineOf};
-ghost use Rattle.metroid_player.specs.Frame.{channelSource};
+ghost use Rattle.metroid_format.specs.Timeline.{timelineOf};
+ghost use Rattle.metroid_format.specs.Channel.{channelSource};
 ghost use Rattle.metroid_check.specs.Verdict.{stopOf, sooner, soonestFrom, verdictBy};
 ghost use Rattle.metroid_check.specs.Demand3.{Foreseen};
 
@@ -38,8 +40,8 @@ fn timeline_of(bank: &[u8], track: Track, voice: Voice) -> Timeline
     let table = track.lengths;
     timeline::timeline_of(
         kind,
-        bank::part(bank, at, DATA_LIMIT),
-        bank::part(bank, table, bank::LENGTHS_SIZE),
+        bytes::part(bank, at, DATA_LIMIT),
+        bytes::part(bank, table, bank::LENGTHS_SIZE),
         track.window,
     )
 }
@@ -92,7 +94,7 @@ fn verdict_of(soonest: Soonest) -> Verdict
     ensures { λ r. ⌜ r ≡ verdictBy soonest ⌝ }
 {
     match soonest {
-        Soonest::Nothing => Verdict::Refused(header::NO_CHANNEL),
+        Soonest::Nothing => Verdict::Refused(refusal::NO_CHANNEL),
         Soonest::Stop(frame, channel, finish) => match finish {
             Finish::End => Verdict::Pass(frame, channel),
             Finish::Refused(number, at) => Verdict::Fault(number, channel, at, frame),

@@ -1,10 +1,9 @@
 -- Document 01, 'The bank and its places'.
 use Prim.Native.Nat.{ℕ, _+_, _-_, _*_}
-use mathlib.Core.Bool.{Bool, true, false}
-use mathlib.Core.List.{List, [], _∷_}
+use mathlib.Core.Bool.{Bool}
+use mathlib.Core.List.{[], _∷_}
 use lib.Dec.{leb}
-use lib.ListN.{getD}
-use Rattle.metroid_format.specs.Pick.{pick}
+use Rattle.engine_base.specs.Pick.{all}
 use Rattle.metroid_format.specs.declared.bank.Places.{Places}
 
 abbrev pub bank-size : ℕ
@@ -48,15 +47,6 @@ envelopes-size = 5 * 2
 abbrev pub offsetOf : ℕ → ℕ
 offsetOf address = address - bank-start
 
--- each test of a list holds
-abbrev pub all : List Bool → Bool
-all [] = true
-all (test ∷ tests) = pick test (all tests) false
-
 -- n bytes from an address stand wholly within the bank
 unfoldable pub within : ℕ → ℕ → Bool
 within address n = all (leb bank-start address ∷ leb (address + n) bank-end ∷ [])
-
--- words are little-endian
-unfoldable pub wordAt : List ℕ → ℕ → ℕ
-wordAt bytes at = getD bytes at 0 + 256 * getD bytes (at + 1) 0

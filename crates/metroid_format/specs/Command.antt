@@ -4,8 +4,9 @@ use mathlib.Core.Bool.{Bool, true, false}
 use mathlib.Core.List.{List, [], _∷_}
 use lib.Dec.{leb, eqb}
 use lib.ListN.{length, getD}
-use Rattle.metroid_format.specs.Pick.{pick}
-use Rattle.metroid_format.specs.Number.{Told, invalid-command, invalid-note, past-data}
+use Rattle.engine_base.specs.Pick.{pick}
+use Rattle.engine_base.specs.Told.{Told}
+use Rattle.engine_base.specs.Refusal.{invalid-command, invalid-note, past-data}
 use Rattle.metroid_format.specs.declared.command.Kind.{Kind}
 use Rattle.metroid_format.specs.declared.command.Kind.the-variants.{Melodic, Noise}
 use Rattle.metroid_format.specs.declared.command.Command.{Command}

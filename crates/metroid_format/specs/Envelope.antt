@@ -4,8 +4,9 @@ use mathlib.Core.Bool.{Bool, true, false}
 use mathlib.Core.List.{List, [], _∷_}
 use lib.Dec.{eqb}
 use lib.ListN.{take, drop}
-use Rattle.metroid_format.specs.Pick.{pick}
-use Rattle.metroid_format.specs.Bank.{all, offsetOf, within, wordAt}
+use Rattle.engine_base.specs.Pick.{pick, all}
+use Rattle.metroid_format.specs.Bank.{offsetOf, within}
+use Rattle.engine_base.specs.Bytes.{wordAt}
 
 -- F0 or FF stands in an envelope's bytes
 abbrev pub showsEnd : List ℕ → Bool

@@ -4,30 +4,11 @@ use mathlib.Core.Bool.{Bool, true, false, not}
 use mathlib.Core.List.{List, [], _∷_, map}
 use lib.Dec.{leb, ltb, eqb}
 use lib.ListN.{length, getD, take, drop}
-use Rattle.metroid_format.specs.Pick.{pick}
-use Rattle.metroid_format.specs.Number.{
-  Told,
-  wrong-size,
-  table-outside,
-  no-track,
-  header-outside,
-  window-too-high,
-  envelope-too-high,
-  no-envelope-end,
-  channel-outside,
-  no-channel,
-}
-use Rattle.metroid_format.specs.Bank.{
-  bank-size,
-  lengths-size,
-  periods-size,
-  presets-size,
-  envelopes-size,
-  all,
-  offsetOf,
-  within,
-  wordAt,
-}
+use Rattle.engine_base.specs.Pick.{pick, unless, all}
+use Rattle.engine_base.specs.Told.{Told}
+use Rattle.engine_base.specs.Refusal.{wrong-size, table-outside, no-track, header-outside, window-too-high, envelope-too-high, no-envelope-end, channel-outside, no-channel}
+use Rattle.metroid_format.specs.Bank.{bank-size, lengths-size, periods-size, presets-size, envelopes-size, offsetOf, within}
+use Rattle.engine_base.specs.Bytes.{wordAt}
 use Rattle.metroid_format.specs.Envelope.{envelopeAddress, envelopeEnds}
 use Rattle.metroid_format.specs.declared.command.Kind.{Kind}
 use Rattle.metroid_format.specs.declared.command.Kind.the-variants.{Melodic, Noise}
@@ -35,10 +16,6 @@ use Rattle.metroid_format.specs.declared.bank.Places.{Places}
 use Rattle.metroid_format.specs.declared.header.Voice.{Voice}
 use Rattle.metroid_format.specs.declared.header.Track.{Track}
 use Rattle.metroid_format.specs.declared.header.Opened.{Opened}
-
--- the number, unless the test holds
-abbrev pub unless : Bool → ℕ → ℕ → ℕ
-unless test number rest = pick test rest number
 
 -- the tables that all tracks share, each wholly within the bank
 unfoldable pub tablesFit : Places → Bool

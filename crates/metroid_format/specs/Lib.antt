@@ -1,7 +1,7 @@
-pub mod Pick
-pub mod Number
 pub mod Command
 pub mod Words
 pub mod Bank
 pub mod Envelope
 pub mod Header
+pub mod Channel
+pub mod Timeline

@@ -6,8 +6,9 @@ use mathlib.Core.Path.{_≡_}
 use lib.Dec.{leb, eqb}
 use lib.ListN.{length, take, drop}
 use lib.Seq.{sets}
-use Rattle.metroid_format.specs.Pick.{pick}
-use Rattle.metroid_format.specs.Number.{FaultWithin, Told, Answers, past-data, invalid-word, no-room}
+use Rattle.engine_base.specs.Pick.{pick}
+use Rattle.engine_base.specs.Refusal.{FaultWithin, past-data, invalid-word, no-room}
+use Rattle.engine_base.specs.Told.{Told, Answers}
 use Rattle.metroid_format.specs.Command.{commandAt, wordOf, isEnd}
 use Rattle.metroid_format.specs.declared.command.Kind.{Kind}
 use Rattle.metroid_format.specs.declared.command.Decoded.{Decoded}

@@ -1,7 +1,6 @@
-// A bank's bytes by offset and by address, and the places that the caller names.
+// A bank by address, and the places that the caller names.
 ghost use mathlib.Core.Path.{_≡_};
-ghost use lib.ListN.{getD, take, drop};
-ghost use Rattle.metroid_format.specs.Bank.{published, offsetOf, within, wordAt};
+ghost use Rattle.metroid_format.specs.Bank.{published, offsetOf, within};
 
 pub const BANK_SIZE: usize = 16384;
 
@@ -73,38 +72,4 @@ pub(crate) fn fits(address: usize, n: usize) -> bool
         return false;
     }
     true
-}
-
-// The byte at an offset, 0 where there is none.
-pub fn byte(bytes: &[u8], at: usize) -> u8
-    ensures { λ r. ⌜ r ≡ getD (now (bytes .entry)) at 0 ⌝ }
-{
-    if bytes.len() <= at {
-        return 0;
-    }
-    bytes[at]
-}
-
-// The little-endian word at an offset, its bytes 0 where there are none.
-pub(crate) fn word(bytes: &[u8], at: usize) -> u16
-    ensures { λ r. ⌜ r ≡ wordAt (now (bytes .entry)) at ⌝ }
-{
-    if bytes.len() <= at {
-        return 0;
-    }
-    byte(bytes, at) as u16 + 256 * (byte(bytes, at + 1) as u16)
-}
-
-// n bytes from an offset, or to the end, whichever is sooner.
-pub fn part(bytes: &[u8], at: usize, n: usize) -> &[u8]
-    ensures { λ r. ⌜ now r ≡ take n (drop at (now (bytes .entry))) ⌝ }
-{
-    if bytes.len() <= at {
-        return &bytes[..0];
-    }
-    if bytes.len() - at <= n {
-        return &bytes[at..];
-    }
-    let end = at + n;
-    &bytes[at..end]
 }

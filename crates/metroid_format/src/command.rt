@@ -1,17 +1,12 @@
 // The bytes of a channel, taken apart into commands.
-use crate::field;
+use engine_base::field;
+use engine_base::refusal;
 ghost use mathlib.Core.Path.{_≡_};
 ghost use Rattle.metroid_format.specs.Command.{commandAt, isKey, isPreset, isNote, noteAfter, told};
-ghost use Rattle.metroid_format.specs.Number.{Answers};
+ghost use Rattle.engine_base.specs.Told.{Answers};
 
 // The bytes of one channel's data.
 pub const DATA_LIMIT: usize = 256;
-
-pub const INVALID_COMMAND: u32 = 10;
-
-pub const INVALID_NOTE: u32 = 11;
-
-pub const PAST_DATA: u32 = 15;
 
 // Squares and triangle play keys, the noise channel presets.
 pub enum Kind {
@@ -85,13 +80,13 @@ fn note_after(kind: Kind, bytes: &[u8], at: usize, length: u8) -> Decoded
     ensures { λ r. ⌜ r ≡ noteAfter kind (now (bytes .entry)) at length ⌝ }
 {
     if bytes.len() <= at {
-        return Decoded::Refused(PAST_DATA, at);
+        return Decoded::Refused(refusal::PAST_DATA, at);
     }
     let b = bytes[at];
     if is_note(kind, b) {
         Decoded::Found(Command::Length(length, b), at + 1)
     } else {
-        Decoded::Refused(INVALID_NOTE, at)
+        Decoded::Refused(refusal::INVALID_NOTE, at)
     }
 }
 
@@ -100,7 +95,7 @@ pub fn command_at(kind: Kind, bytes: &[u8], at: usize) -> Decoded
     ensures { λ r. ⌜ Answers told r (commandAt kind (now (bytes .entry)) at) ⌝ }
 {
     if bytes.len() <= at {
-        return Decoded::Refused(PAST_DATA, at);
+        return Decoded::Refused(refusal::PAST_DATA, at);
     }
     let b = bytes[at];
     let next = at + 1;
@@ -117,11 +112,11 @@ pub fn command_at(kind: Kind, bytes: &[u8], at: usize) -> Decoded
         return note_after(kind, bytes, next, field::low4(b));
     }
     if 0x80 <= b {
-        return Decoded::Refused(INVALID_COMMAND, at);
+        return Decoded::Refused(refusal::INVALID_COMMAND, at);
     }
     if is_note(kind, b) {
         Decoded::Found(Command::Note(b), next)
     } else {
-        Decoded::Refused(INVALID_NOTE, at)
+        Decoded::Refused(refusal::INVALID_NOTE, at)
     }
 }

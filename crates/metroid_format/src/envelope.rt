@@ -1,5 +1,6 @@
 // The envelopes of the squares.
 use crate::bank;
+use engine_base::bytes;
 ghost use mathlib.Core.Path.{_≡_};
 ghost use Prim.Native.Nat.{_<_};
 ghost use Rattle.metroid_format.specs.Envelope.{showsEnd, envelopeAddress, envelopeEnds};
@@ -31,7 +32,7 @@ pub(crate) fn address_of(bank: &[u8], table: u32, number: u8) -> u16
     ensures { λ r. ⌜ r ≡ envelopeAddress (now (bank .entry)) table number ⌝ }
 {
     let at = bank::offset_of(table as usize + 2 * (number as usize - 1));
-    bank::word(bank, at)
+    bytes::word(bank, at)
 }
 
 // Whether envelope 0 to 5 ends within its reach; 0 is none.
@@ -45,5 +46,5 @@ pub(crate) fn ends(bank: &[u8], table: u32, number: u8) -> bool
     if !bank::fits(address as usize, 1) {
         return false;
     }
-    shows_end(bank::part(bank, bank::offset_of(address as usize), REACH))
+    shows_end(bytes::part(bank, bank::offset_of(address as usize), REACH))
 }

@@ -3,9 +3,12 @@ use crate::bank;
 use crate::bank::Places;
 use crate::command::Kind;
 use crate::envelope;
+use engine_base::bytes;
+use engine_base::refusal;
 ghost use mathlib.Core.Path.{_≡_};
 ghost use lib.ListN.{take, drop};
-ghost use Rattle.metroid_format.specs.Bank.{offsetOf, wordAt};
+ghost use Rattle.metroid_format.specs.Bank.{offsetOf};
+ghost use Rattle.engine_base.specs.Bytes.{wordAt};
 ghost use Rattle.metroid_format.specs.Header.{
   tablesFit,
   placesFit,
@@ -29,25 +32,7 @@ ghost use Rattle.metroid_format.specs.Header.{
   openTrack,
   toldOpened,
 };
-ghost use Rattle.metroid_format.specs.Number.{Answers};
-
-pub const WRONG_SIZE: u32 = 1;
-
-pub const TABLE_OUTSIDE: u32 = 2;
-
-pub const NO_TRACK: u32 = 3;
-
-pub const HEADER_OUTSIDE: u32 = 4;
-
-pub const WINDOW_TOO_HIGH: u32 = 5;
-
-pub const ENVELOPE_TOO_HIGH: u32 = 6;
-
-pub const NO_ENVELOPE_END: u32 = 7;
-
-pub const CHANNEL_OUTSIDE: u32 = 8;
-
-pub const NO_CHANNEL: u32 = 9;
+ghost use Rattle.engine_base.specs.Told.{Answers};
 
 const HEADER_SIZE: usize = 13;
 
@@ -122,30 +107,30 @@ fn header_address(bank: &[u8], places: Places, track: u32) -> usize
     ensures { λ r. ⌜ r ≡ headerAddress (now (bank .entry)) places track ⌝ }
 {
     let entry = bank::offset_of(places.header_offsets as usize + track as usize);
-    places.header_block as usize + bank::byte(bank, entry) as usize
+    places.header_block as usize + bytes::byte(bank, entry) as usize
 }
 
 // The header at an address.
 fn header_at(bank: &[u8], address: usize) -> &[u8]
     ensures { λ r. ⌜ now r ≡ take header-size (drop (offsetOf address) (now (bank .entry))) ⌝ }
 {
-    bank::part(bank, bank::offset_of(address), HEADER_SIZE)
+    bytes::part(bank, bank::offset_of(address), HEADER_SIZE)
 }
 
 // The top three bits of +0 are 0.
 fn window_fits(header: &[u8]) -> bool
     ensures { λ r. ⌜ r ≡ windowFits (now (header .entry)) ⌝ }
 {
-    bank::byte(header, 0) >> 5 == 0
+    bytes::byte(header, 0) >> 5 == 0
 }
 
 fn envelope_numbers_fit(header: &[u8]) -> bool
     ensures { λ r. ⌜ r ≡ envelopeNumbersFit (now (header .entry)) ⌝ }
 {
-    if LAST_ENVELOPE < bank::byte(header, 3) {
+    if LAST_ENVELOPE < bytes::byte(header, 3) {
         return false;
     }
-    bank::byte(header, 4) <= LAST_ENVELOPE
+    bytes::byte(header, 4) <= LAST_ENVELOPE
 }
 
 // The envelope of a square by its number and the square's address.
@@ -161,16 +146,16 @@ fn square_ends(bank: &[u8], table: u32, number: u8, address: u16) -> bool
 fn squares_end(bank: &[u8], table: u32, header: &[u8]) -> bool
     ensures { λ r. ⌜ r ≡ squaresEnd (now (bank .entry)) table (now (header .entry)) ⌝ }
 {
-    if !square_ends(bank, table, bank::byte(header, 3), bank::word(header, 5)) {
+    if !square_ends(bank, table, bytes::byte(header, 3), bytes::word(header, 5)) {
         return false;
     }
-    square_ends(bank, table, bank::byte(header, 4), bank::word(header, 7))
+    square_ends(bank, table, bytes::byte(header, 4), bytes::word(header, 7))
 }
 
 fn address_fits(header: &[u8], at: usize) -> bool
     ensures { λ r. ⌜ r ≡ addressFits (wordAt (now (header .entry)) at) ⌝ }
 {
-    let address = bank::word(header, at);
+    let address = bytes::word(header, at);
     if address == 0 {
         return true;
     }
@@ -195,16 +180,16 @@ fn addresses_fit(header: &[u8]) -> bool
 fn all_unused(header: &[u8]) -> bool
     ensures { λ r. ⌜ r ≡ allUnused (now (header .entry)) ⌝ }
 {
-    if bank::word(header, 5) != 0 {
+    if bytes::word(header, 5) != 0 {
         return false;
     }
-    if bank::word(header, 7) != 0 {
+    if bytes::word(header, 7) != 0 {
         return false;
     }
-    if bank::word(header, 9) != 0 {
+    if bytes::word(header, 9) != 0 {
         return false;
     }
-    bank::word(header, 11) == 0
+    bytes::word(header, 11) == 0
 }
 
 // The first number of 5 to 9, or 0.
@@ -212,19 +197,19 @@ fn header_number(bank: &[u8], table: u32, header: &[u8]) -> u32
     ensures { λ r. ⌜ r ≡ headerNumber (now (bank .entry)) table (now (header .entry)) ⌝ }
 {
     if !window_fits(header) {
-        return WINDOW_TOO_HIGH;
+        return refusal::WINDOW_TOO_HIGH;
     }
     if !envelope_numbers_fit(header) {
-        return ENVELOPE_TOO_HIGH;
+        return refusal::ENVELOPE_TOO_HIGH;
     }
     if !squares_end(bank, table, header) {
-        return NO_ENVELOPE_END;
+        return refusal::NO_ENVELOPE_END;
     }
     if !addresses_fit(header) {
-        return CHANNEL_OUTSIDE;
+        return refusal::CHANNEL_OUTSIDE;
     }
     if all_unused(header) {
-        return NO_CHANNEL;
+        return refusal::NO_CHANNEL;
     }
     0
 }
@@ -285,20 +270,20 @@ fn voices_of(bank: &[u8], places: Places, header: &[u8]) -> [Voice; 4]
         bank,
         table,
         Kind::Melodic,
-        bank::word(header, 5),
-        bank::byte(header, 3),
+        bytes::word(header, 5),
+        bytes::byte(header, 3),
         places.default1,
     );
     let square2 = voice_of(
         bank,
         table,
         Kind::Melodic,
-        bank::word(header, 7),
-        bank::byte(header, 4),
+        bytes::word(header, 7),
+        bytes::byte(header, 4),
         places.default2,
     );
-    let triangle = voice_of(bank, table, Kind::Melodic, bank::word(header, 9), 0, 0);
-    let noise = voice_of(bank, table, Kind::Noise, bank::word(header, 11), 0, 0);
+    let triangle = voice_of(bank, table, Kind::Melodic, bytes::word(header, 9), 0, 0);
+    let noise = voice_of(bank, table, Kind::Noise, bytes::word(header, 11), 0, 0);
     [square1, square2, triangle, noise]
 }
 
@@ -307,9 +292,9 @@ fn track_of(bank: &[u8], places: Places, header: &[u8]) -> Track
 {
     let voices = voices_of(bank, places, header);
     Track {
-        window: bank::byte(header, 0),
-        restart: bank::byte(header, 1) != 0,
-        release: bank::byte(header, 2),
+        window: bytes::byte(header, 0),
+        restart: bytes::byte(header, 1) != 0,
+        release: bytes::byte(header, 2),
         lengths: bank::offset_of(places.note_lengths as usize),
         periods: bank::offset_of(places.key_periods as usize),
         presets: bank::offset_of(places.noise_presets as usize),
@@ -356,17 +341,17 @@ pub fn open(bank: &[u8], places: Places, track: u32) -> Opened
     ensures { λ r. ⌜ Answers toldOpened r (openTrack (now (bank .entry)) places track) ⌝ }
 {
     if bank.len() != bank::BANK_SIZE {
-        return refused(WRONG_SIZE);
+        return refused(refusal::WRONG_SIZE);
     }
     if !places_fit(places) {
-        return refused(TABLE_OUTSIDE);
+        return refused(refusal::TABLE_OUTSIDE);
     }
     if places.track_count <= track {
-        return refused(NO_TRACK);
+        return refused(refusal::NO_TRACK);
     }
     let address = header_address(bank, places, track);
     if !bank::fits(address, HEADER_SIZE) {
-        return refused(HEADER_OUTSIDE);
+        return refused(refusal::HEADER_OUTSIDE);
     }
     open_header(bank, places, header_at(bank, address))
 }

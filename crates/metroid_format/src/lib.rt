@@ -1,7 +1,9 @@
-// The Metroid music format: a bank and its headers, and a channel's bytes as commands and as words.
+// The Metroid music format: a bank and its headers, a channel's bytes as commands and as words, and one channel: its commands
+// until a note, and its way from start to stop.
 pub mod bank;
+pub mod channel;
 pub mod command;
 pub mod envelope;
-pub mod field;
 pub mod header;
+pub mod timeline;
 pub mod words;

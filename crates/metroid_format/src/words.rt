@@ -1,22 +1,20 @@
 // Commands as 16-bit words: straight reading, which runs no loop, and writing.
-use crate::bank;
 use crate::command;
 use crate::command::Command;
 use crate::command::DATA_LIMIT;
 use crate::command::Decoded;
 use crate::command::Finish;
 use crate::command::Kind;
+use engine_base::buffer;
+use engine_base::bytes;
+use engine_base::refusal;
 ghost use mathlib.Core.Path.{_≡_};
 ghost use Prim.Native.Nat.{_+_, _<_, _^_};
-ghost use lib.ListN.{set, take};
+ghost use lib.ListN.{take};
 ghost use lib.Seq.{sets};
 ghost use Rattle.metroid_format.specs.Command.{data-limit, isEnd, wordOf};
 ghost use Rattle.metroid_format.specs.Words.{pair, commandOfWord, encoded, Encodes, Writes};
 ghost use Rattle.metroid_format.specs.Words.{straight, Decodes, Reads};
-
-pub const INVALID_WORD: u32 = 17;
-
-pub const NO_ROOM: u32 = 18;
 
 pub enum Reading {
     // how many words were written
@@ -68,22 +66,6 @@ fn word_of(command: Command) -> u16
     }
 }
 
-fn put_word(out: &mut [u16], at: usize, word: u16)
-    ensures { λ _. ⌜ now (out .exit) ≡ set (now (out .entry)) at word ⌝ }
-{
-    if at < out.len() {
-        out[at] = word;
-    }
-}
-
-fn put_byte(out: &mut [u8], at: usize, b: u8)
-    ensures { λ _. ⌜ now (out .exit) ≡ set (now (out .entry)) at b ⌝ }
-{
-    if at < out.len() {
-        out[at] = b;
-    }
-}
-
 // The words of the data up to its end or first refusal, written as far as they fit.
 fn decode(kind: Kind, bytes: &[u8], out: &mut [u16]) -> Decoding
     ensures { λ r. ⌜ Decodes (straight kind (now (bytes .entry))) (now (out .entry)) (r .count) (r .finish) (now (out .exit)) ⌝ }
@@ -99,7 +81,7 @@ fn decode(kind: Kind, bytes: &[u8], out: &mut [u16]) -> Decoding
                 };
             }
             Decoded::Found(command, next) => {
-                put_word(out, n, word_of(command));
+                buffer::put16(out, n, word_of(command));
                 n += 1;
                 if is_end(command) {
                     return Decoding {
@@ -113,7 +95,7 @@ fn decode(kind: Kind, bytes: &[u8], out: &mut [u16]) -> Decoding
     }
     Decoding {
         count: n,
-        finish: Finish::Refused(command::PAST_DATA, at),
+        finish: Finish::Refused(refusal::PAST_DATA, at),
     }
 }
 
@@ -125,12 +107,12 @@ fn command_of(kind: Kind, word: u16) -> Decoded
     let high = (word / 256) as u8;
     let bytes = [low, high];
     match command::command_at(kind, &bytes, 0) {
-        Decoded::Refused(_, _) => Decoded::Refused(INVALID_WORD, 0),
+        Decoded::Refused(_, _) => Decoded::Refused(refusal::INVALID_WORD, 0),
         Decoded::Found(command, next) => {
             if word_of(command) == word {
                 Decoded::Found(command, next)
             } else {
-                Decoded::Refused(INVALID_WORD, 0)
+                Decoded::Refused(refusal::INVALID_WORD, 0)
             }
         }
     }
@@ -144,11 +126,11 @@ fn put_pair(out: &mut [u8], at: usize, word: u16, count: usize)
     if count == 0 {
         return;
     }
-    put_byte(out, at, (word % 256) as u8);
+    buffer::put8(out, at, (word % 256) as u8);
     if count == 1 {
         return;
     }
-    put_byte(out, at + 1, (word / 256) as u8);
+    buffer::put8(out, at + 1, (word / 256) as u8);
 }
 
 // The bytes of the words up to the first that is refused, written as far as they fit.
@@ -189,7 +171,7 @@ fn encode(kind: Kind, words: &[u16], out: &mut [u8]) -> Encoding
 pub fn read_words(kind: Kind, bytes: &[u8], out: &mut [u16]) -> Reading
     ensures { λ r. ⌜ Reads data-limit kind (now (bytes .entry)) (now (out .entry)) r (now (out .exit)) ⌝ }
 {
-    let data = bank::part(bytes, 0, DATA_LIMIT);
+    let data = bytes::part(bytes, 0, DATA_LIMIT);
     let mut scratch = [0u16; 1];
     let found = decode(kind, data, &mut scratch);
     let count = found.count;

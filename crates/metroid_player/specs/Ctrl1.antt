@@ -3,7 +3,7 @@ use Prim.Native.Nat.{ℕ, zero, suc}
 use mathlib.Core.List.{List, [], _∷_}
 use lib.Bits.{bitAnd, bitOr}
 use lib.Dec.{eqb}
-use Rattle.metroid_format.specs.Pick.{pick}
+use Rattle.engine_base.specs.Pick.{pick}
 
 abbrev pub silent : ℕ
 silent = 0x10

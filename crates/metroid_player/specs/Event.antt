@@ -4,7 +4,7 @@ use mathlib.Core.Bool.{Bool, false}
 use mathlib.Core.List.{List, [], _∷_}
 use lib.Dec.{eqb}
 use lib.ListN.{getD, take, drop}
-use Rattle.metroid_format.specs.Pick.{pick}
+use Rattle.engine_base.specs.Pick.{pick}
 use Rattle.metroid_format.specs.Bank.{periods-size, presets-size}
 use Rattle.metroid_format.specs.Envelope.{envelope-reach}
 use Rattle.metroid_format.specs.declared.command.Kind.{Kind}
@@ -47,13 +47,13 @@ melodicRest i = pick (eqb i triangle-channel) (TriangleRest (After (record { cou
 
 -- the envelope's index is the length less the frames left, before the frame is taken off
 unfoldable pub noteCtrl1 : List ℕ → Voice → Channel → ℕ
-noteCtrl1 bank voice c = ctrl1At (voice .default) (envelopeOf bank voice) (c .length - c .left)
+noteCtrl1 bank voice c = ctrl1At (voice .default) (envelopeOf bank voice) (c .length .count - c .left .count)
 
 -- key and period, and ctrl 1 of a square, release of a triangle
 unfoldable pub melodicNote : List ℕ → Track → ℕ → Voice → Channel → Sound
 melodicNote bank track i voice c =
     pick (eqb i triangle-channel)
-    (Triangle key period (releaseOf (track .release) (record { count = c .length })))
+    (Triangle key period (releaseOf (track .release) (c .length)))
     (Square key period (noteCtrl1 bank voice c))
   where
     key : ℕ

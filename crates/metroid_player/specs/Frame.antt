@@ -3,20 +3,19 @@ use Prim.Native.Nat.{ℕ, _+_, _-_, _<_}
 use mathlib.Core.Bool.{true, false}
 use mathlib.Core.List.{List, [], _∷_, _++_}
 use lib.Dec.{eqb}
-use lib.ListN.{take, drop}
 use lib.Seq.{sets}
-use Rattle.metroid_format.specs.Pick.{pick}
-use Rattle.metroid_format.specs.Number.{Told, invalid-record, Unopened, FaultWithin}
+use Rattle.engine_base.specs.Pick.{pick}
+use Rattle.engine_base.specs.Told.{Told}
+use Rattle.engine_base.specs.Refusal.{invalid-record, Unopened, FaultWithin}
 use Rattle.metroid_format.specs.Command.{data-limit}
-use Rattle.metroid_format.specs.Bank.{lengths-size}
 use Rattle.metroid_format.specs.Header.{openTrack}
-use Rattle.metroid_channel.specs.Channel.{Source, sourceOf, readUntil}
+use Rattle.metroid_format.specs.Channel.{channelSource, readUntil}
 use Rattle.metroid_format.specs.declared.bank.Places.{Places}
 use Rattle.metroid_format.specs.declared.header.Voice.{Voice}
 use Rattle.metroid_format.specs.declared.header.Track.{Track}
-use Rattle.metroid_channel.specs.declared.channel.Cursor.{Cursor}
-use Rattle.metroid_channel.specs.declared.channel.Stop.{Stop}
-use Rattle.metroid_channel.specs.declared.channel.Reading.{Reading}
+use Rattle.metroid_format.specs.declared.channel.Cursor.{Cursor}
+use Rattle.metroid_format.specs.declared.channel.Stop.{Stop}
+use Rattle.metroid_format.specs.declared.channel.Until.{Until}
 use Rattle.metroid_player.specs.Record.{four, freshPlayer, endedPlayer, cursorOf, channelsFit}
 use Rattle.metroid_player.specs.Event.{offEvent, eventOf, toldEvent}
 use Rattle.metroid_player.specs.declared.record.Channel.{Channel}
@@ -28,19 +27,14 @@ use Rattle.metroid_player.specs.declared.frame.Answer.{Answer}
 use Rattle.metroid_player.specs.declared.frame.Framed.{Framed}
 use Rattle.metroid_player.specs.declared.frame.Started.{Started}
 
--- a channel's data runs from its address for 256 bytes or to $bfff, whichever is sooner
-abbrev pub channelSource : List ℕ → Track → Voice → Source
-channelSource bank track voice =
-    sourceOf (voice .kind) (take data-limit (drop (voice .«data») bank)) (take lengths-size (drop (track .lengths) bank)) (track .window)
-
 -- a note sets frames left to the current length
 abbrev pub begun : Cursor → ℕ → Channel
 begun cursor b = record {
   next = cursor .next;
   «loop_start» = cursor .«loop_start»;
   counter = cursor .counter;
-  length = cursor .length .count;
-  left = cursor .length .count;
+  length = cursor .length;
+  left = cursor .length;
   sounding = b;
 }
 
@@ -51,7 +45,7 @@ oneOff c = record {
   «loop_start» = c .«loop_start»;
   counter = c .counter;
   length = c .length;
-  left = c .left - 1;
+  left = record { count = c .left .count - 1 };
   sounding = c .sounding;
 }
 
@@ -61,15 +55,15 @@ turnBy c cursor count Stop.End = record { turned = Turned.End; began = false; ch
 turnBy c cursor count (Stop.Refused number at) =
     record { turned = Turned.Refused number at; began = false; channel = c; count = count }
 
-abbrev pub turnOfReading : Channel → Reading → Turn
-turnOfReading c r = turnBy c (r .cursor) (r .count) (r .stop)
+abbrev pub turnOfUntil : Channel → Until → Turn
+turnOfUntil c r = turnBy c (r .cursor) (r .count) (r .stop)
 
 -- what a channel does: an unused one is off; one with no frames left reads commands until a key, rest, preset, end or fault
 unfoldable pub turnOf : List ℕ → Track → Voice → Channel → Turn
 turnOf bank track voice c =
     pick (voice .used)
-    (pick (eqb (c .left) 0)
-    (turnOfReading c (readUntil data-limit (channelSource bank track voice) (cursorOf c)))
+    (pick (eqb (c .left .count) 0)
+    (turnOfUntil c (readUntil data-limit (channelSource bank track voice) (cursorOf c)))
     (record { turned = Turned.Plays; began = false; channel = c; count = 0 }))
     (record { turned = Turned.Off; began = false; channel = c; count = 0 })
 
@@ -200,9 +194,9 @@ pub data Unplaced : ℕ → Type 0 where
 
 -- a refusal is one of document 01's table; the place of 10 to 15 is one of the first n channels, and an offset in its data or at its
 -- end (proofs/frame/Place.antt: n is 4)
-abbrev pub Placed : ℕ → Answer → Type 0
-Placed n Answer.Events = Unit {0}
-Placed n Answer.End = Unit {0}
-Placed n Answer.Stopped = Unit {0}
-Placed n (Answer.Refused number) = Unplaced number
-Placed n (Answer.Fault number i at) = (i < n) × FaultWithin data-limit number at
+abbrev pub AnswerWithin : ℕ → Answer → Type 0
+AnswerWithin n Answer.Events = Unit {0}
+AnswerWithin n Answer.End = Unit {0}
+AnswerWithin n Answer.Stopped = Unit {0}
+AnswerWithin n (Answer.Refused number) = Unplaced number
+AnswerWithin n (Answer.Fault number i at) = (i < n) × FaultWithin data-limit number at

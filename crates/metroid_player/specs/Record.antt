@@ -2,15 +2,16 @@
 use mathlib.Core.Bool.{Bool, true, false}
 use mathlib.Core.List.{List, [], _∷_}
 use lib.Dec.{leb, eqb}
-use Rattle.metroid_format.specs.Pick.{pick}
+use Rattle.engine_base.specs.Pick.{pick}
 use Rattle.metroid_format.specs.Command.{data-limit, isNote}
-use Rattle.metroid_channel.specs.declared.channel.Cursor.{Cursor}
+use Rattle.metroid_format.specs.declared.channel.Cursor.{Cursor}
 use Rattle.metroid_format.specs.declared.header.Voice.{Voice}
 use Rattle.metroid_player.specs.declared.record.Channel.{Channel}
 use Rattle.metroid_player.specs.declared.record.Player.{Player}
 
 abbrev pub freshChannel : Channel
-freshChannel = record { next = 0; «loop_start» = 0; counter = 0; length = 0; left = 0; sounding = 0 }
+freshChannel =
+    record { next = 0; «loop_start» = 0; counter = 0; length = record { count = 0 }; left = record { count = 0 }; sounding = 0 }
 
 abbrev pub four : {A : Type 0} → A → List A
 four x = x ∷ x ∷ x ∷ x ∷ []
@@ -24,11 +25,13 @@ abbrev pub endedPlayer : Bool → Player
 endedPlayer restart = record { stopped = pick restart 0 1; channels = four freshChannel }
 
 abbrev pub cursorOf : Channel → Cursor
-cursorOf c = record { next = c .next; «loop_start» = c .«loop_start»; counter = c .counter; length = record { count = c .length } }
+cursorOf c = record { next = c .next; «loop_start» = c .«loop_start»; counter = c .counter; length = c .length }
 
 -- frames left above 0 want a length not below them and a sounding byte that is a key, rest or preset of the channel
 unfoldable pub soundFits : Voice → Channel → Bool
-soundFits voice c = pick (eqb (c .left) 0) true (pick (leb (c .left) (c .length)) (isNote (voice .kind) (c .sounding)) false)
+soundFits voice c =
+    pick (eqb (c .left .count) 0) true
+    (pick (leb (c .left .count) (c .length .count)) (isNote (voice .kind) (c .sounding)) false)
 
 -- 16 asks only used channels
 unfoldable pub channelFits : Voice → Channel → Bool

@@ -1,9 +1,9 @@
 -- Document 01, 'A frame': triangle release.
 use Prim.Native.Nat.{ℕ, _-_, _*_, _/_, _%_, min}
 use lib.Dec.{eqb}
-use Rattle.metroid_format.specs.Pick.{pick}
-use Rattle.metroid_channel.specs.declared.channel.Frames.{Frames}
-use Rattle.metroid_channel.specs.declared.channel.QuarterFrames.{QuarterFrames}
+use Rattle.engine_base.specs.Pick.{pick}
+use Rattle.engine_base.specs.declared.time.Frames.{Frames}
+use Rattle.engine_base.specs.declared.time.QuarterFrames.{QuarterFrames}
 use Rattle.metroid_player.specs.declared.release.Release.{Release}
 use Rattle.metroid_player.specs.declared.release.Release.the-variants.{After, Never}
 

@@ -1,4 +1,5 @@
 // Ctrl 1 of a square, from its envelope.
+use engine_base::time::Frames;
 ghost use mathlib.Core.Path.{_≡_};
 ghost use Rattle.metroid_player.specs.Ctrl1.{defaultCtrl1, combined, ctrl1At};
 
@@ -18,9 +19,10 @@ fn combine(v: u8, default: u8) -> u8
 }
 
 // Ctrl 1 in the frame of that index, from the bytes of the envelope (none: no envelope).
-pub(crate) fn ctrl1_at(default: u8, envelope: &[u8], index: usize) -> u8
-    ensures { λ r. ⌜ r ≡ ctrl1At default (now (envelope .entry)) index ⌝ }
+pub(crate) fn ctrl1_at(default: u8, envelope: &[u8], index: Frames) -> u8
+    ensures { λ r. ⌜ r ≡ ctrl1At default (now (envelope .entry)) (index .count) ⌝ }
 {
+    let last = index.count as usize;
     let mut i: usize = 0;
     while i < envelope.len() {
         let v = envelope[i];
@@ -30,7 +32,7 @@ pub(crate) fn ctrl1_at(default: u8, envelope: &[u8], index: usize) -> u8
         if v == 0xff {
             return default_ctrl1(default);
         }
-        if index <= i {
+        if last <= i {
             return combine(v, default);
         }
         i += 1;

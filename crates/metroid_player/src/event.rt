@@ -3,8 +3,9 @@ use crate::ctrl1;
 use crate::record::Channel;
 use crate::release;
 use crate::release::Release;
-use metroid_channel::channel::Frames;
-use metroid_channel::channel::QuarterFrames;
+use engine_base::time::Frames;
+use engine_base::time::QuarterFrames;
+use engine_base::bytes;
 use metroid_format::bank;
 use metroid_format::command::Kind;
 use metroid_format::envelope;
@@ -61,7 +62,7 @@ fn period_at(periods: &[u8], key: u8) -> u16
     ensures { λ r. ⌜ r ≡ periodAt (now (periods .entry)) key ⌝ }
 {
     let at = 2 * (key as usize);
-    256 * wide(bank::byte(periods, at)) + wide(bank::byte(periods, at + 1))
+    256 * wide(bytes::byte(periods, at)) + wide(bytes::byte(periods, at + 1))
 }
 
 // The bytes of a square's envelope: none where it has none.
@@ -71,19 +72,21 @@ fn envelope_of(bank: &[u8], voice: Voice) -> &[u8]
     let has = voice.has_envelope;
     let at = voice.envelope as usize;
     if has {
-        return bank::part(bank, at, envelope::REACH);
+        return bytes::part(bank, at, envelope::REACH);
     }
-    bank::part(bank, 0, 0)
+    bytes::part(bank, 0, 0)
 }
 
 // The index of a frame in its note, whose frames left still count it.
-fn index_of(length: u8, left: u8) -> usize
-    ensures { λ r. ⌜ r ≡ length - left ⌝ }
+fn index_of(length: Frames, left: Frames) -> Frames
+    ensures { λ r. ⌜ r .count ≡ length .count - left .count ⌝ }
 {
-    if length < left {
-        return 0;
+    if length.count < left.count {
+        return Frames { count: 0 };
     }
-    (length - left) as usize
+    Frames {
+        count: length.count - left.count,
+    }
 }
 
 fn melodic_rest(i: usize) -> Sound
@@ -108,12 +111,9 @@ fn melodic_note(bank: &[u8], track: Track, i: usize, voice: Voice, channel: Chan
     ensures { λ r. ⌜ r ≡ melodicNote (now (bank .entry)) track i voice channel ⌝ }
 {
     let key = channel.sounding >> 1;
-    let period = period_at(bank::part(bank, track.periods, bank::PERIODS_SIZE), key);
+    let period = period_at(bytes::part(bank, track.periods, bank::PERIODS_SIZE), key);
     if i == TRIANGLE {
-        let length = Frames {
-            count: channel.length,
-        };
-        let after = release::release_of(track.release, length);
+        let after = release::release_of(track.release, channel.length);
         return Sound::Triangle(key, period, after);
     }
     let ctrl1 = note_ctrl1(bank, voice, channel);
@@ -127,9 +127,9 @@ fn noise_sound(presets: &[u8], b: u8) -> Sound
         return Sound::NoiseRest;
     }
     let at = b as usize;
-    let first = bank::byte(presets, at);
-    let second = bank::byte(presets, at + 1);
-    let third = bank::byte(presets, at + 2);
+    let first = bytes::byte(presets, at);
+    let second = bytes::byte(presets, at + 1);
+    let third = bytes::byte(presets, at + 2);
     Sound::Noise(first, second, third)
 }
 
@@ -141,7 +141,7 @@ fn sound_of(bank: &[u8], track: Track, i: usize, voice: Voice, channel: Channel)
     match kind {
         Kind::Noise => {
             noise_sound(
-                bank::part(bank, track.presets, bank::PRESETS_SIZE),
+                bytes::part(bank, track.presets, bank::PRESETS_SIZE),
                 channel.sounding,
             )
         }

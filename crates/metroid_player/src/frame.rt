@@ -4,10 +4,13 @@ use crate::event::Event;
 use crate::record;
 use crate::record::Channel;
 use crate::record::Player;
-use metroid_channel::channel;
-use metroid_channel::channel::Cursor;
-use metroid_channel::channel::Reading;
-use metroid_channel::channel::Stop;
+use metroid_format::channel;
+use metroid_format::channel::Cursor;
+use metroid_format::channel::Stop;
+use metroid_format::channel::Until;
+use engine_base::bytes;
+use engine_base::refusal;
+use engine_base::time::Frames;
 use metroid_format::bank;
 use metroid_format::bank::Places;
 use metroid_format::command::DATA_LIMIT;
@@ -18,13 +21,13 @@ ghost use mathlib.Core.Path.{_≡_};
 ghost use mathlib.Core.Bool.{true};
 ghost use Prim.Native.Nat.{_≤_};
 ghost use Rattle.metroid_format.specs.Command.{data-limit};
-ghost use Rattle.metroid_channel.specs.Channel.{readUntil};
+ghost use Rattle.metroid_format.specs.Channel.{channelSource, readUntil};
 ghost use Rattle.metroid_player.specs.Record.{cursorOf, channelFits, channelsFit};
-ghost use Rattle.metroid_player.specs.Frame.{channelSource, begun, oneOff, turnOfReading, turnOf, eventless, settleFrom, framed, frameOfTrack, frameOf, startOf, toldFramed, toldStarted};
-ghost use Rattle.metroid_format.specs.Number.{Answers};
+ghost use Rattle.metroid_player.specs.Frame.{begun, oneOff, turnOfUntil, turnOf, eventless, settleFrom, framed, frameOfTrack, frameOf, startOf, toldFramed, toldStarted};
+ghost use Rattle.engine_base.specs.Told.{Answers};
 
 // What a channel does in a frame.
-enum Turned {
+pub enum Turned {
     // unused
     Off,
     Plays,
@@ -33,7 +36,7 @@ enum Turned {
     Refused(u32, usize),
 }
 
-struct Turn {
+pub struct Turn {
     pub turned: Turned,
     // a note, in this frame
     pub began: bool,
@@ -76,8 +79,8 @@ fn begun_channel(cursor: Cursor, b: u8) -> Channel
         next: cursor.next as u16,
         loop_start: cursor.loop_start as u16,
         counter: cursor.counter,
-        length: length.count,
-        left: length.count,
+        length,
+        left: length,
         sounding: b,
     }
 }
@@ -87,16 +90,17 @@ fn one_off(channel: Channel) -> Channel
     ensures { λ r. ⌜ r ≡ oneOff channel ⌝ }
 {
     let mut next = channel;
-    let left = channel.left;
+    let left = channel.left.count;
     if left == 0 {
         return next;
     }
-    next.left = left - 1;
+    let less = Frames { count: left - 1 };
+    next.left = less;
     next
 }
 
 // Reads a channel's part of the bank until a note, the end or a fault.
-fn read_channel(bank: &[u8], track: Track, voice: Voice, channel: Channel) -> Reading
+fn read_channel(bank: &[u8], track: Track, voice: Voice, channel: Channel) -> Until
     requires { ⌜ (channel .next ≤ data-limit) × (channel .«loop_start» ≤ data-limit) ⌝ }
     ensures { λ r. ⌜ (r ≡ readUntil data-limit (channelSource (now (bank .entry)) track voice) (cursorOf channel)) × (r .cursor .next ≤ data-limit) × (r .cursor .«loop_start» ≤ data-limit) ⌝ }
 {
@@ -105,8 +109,8 @@ fn read_channel(bank: &[u8], track: Track, voice: Voice, channel: Channel) -> Re
     let table = track.lengths;
     channel::read_until(
         kind,
-        bank::part(bank, at, DATA_LIMIT),
-        bank::part(bank, table, bank::LENGTHS_SIZE),
+        bytes::part(bank, at, DATA_LIMIT),
+        bytes::part(bank, table, bank::LENGTHS_SIZE),
         track.window,
         record::cursor_of(channel),
     )
@@ -115,14 +119,14 @@ fn read_channel(bank: &[u8], track: Track, voice: Voice, channel: Channel) -> Re
 // A channel with no frames left reads.
 fn read_turn(bank: &[u8], track: Track, voice: Voice, channel: Channel) -> Turn
     requires { ⌜ (channel .next ≤ data-limit) × (channel .«loop_start» ≤ data-limit) ⌝ }
-    ensures { λ r. ⌜ r ≡ turnOfReading channel (readUntil data-limit (channelSource (now (bank .entry)) track voice) (cursorOf channel)) ⌝ }
+    ensures { λ r. ⌜ r ≡ turnOfUntil channel (readUntil data-limit (channelSource (now (bank .entry)) track voice) (cursorOf channel)) ⌝ }
 {
-    let reading = read_channel(bank, track, voice, channel);
-    let stop = reading.stop;
-    let count = reading.count;
+    let until = read_channel(bank, track, voice, channel);
+    let stop = until.stop;
+    let count = until.count;
     match stop {
         Stop::Note(b) => {
-            let cursor = reading.cursor;
+            let cursor = until.cursor;
             let begun = begun_channel(cursor, b);
             Turn {
                 turned: Turned::Plays,
@@ -157,7 +161,7 @@ fn take_turn(bank: &[u8], track: Track, voice: Voice, channel: Channel) -> Turn
 {
     let used = voice.used;
     if used {
-        if channel.left == 0 {
+        if channel.left.count == 0 {
             return read_turn(bank, track, voice, channel);
         }
         return Turn {
@@ -267,7 +271,7 @@ fn frame_of_track(bank: &[u8], track: Track, player: Player) -> Framed
         }
         return without_events(Answer::Stopped, none, player);
     }
-    without_events(Answer::Refused(record::INVALID_RECORD), none, player)
+    without_events(Answer::Refused(refusal::INVALID_RECORD), none, player)
 }
 
 impl Player {

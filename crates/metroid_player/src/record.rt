@@ -1,12 +1,10 @@
 // The player's record, and what is refused of one.
-use metroid_channel::channel::Cursor;
-use metroid_channel::channel::Frames;
+use metroid_format::channel::Cursor;
+use engine_base::time::Frames;
 use metroid_format::command;
 use metroid_format::header::Voice;
 ghost use mathlib.Core.Path.{_≡_};
 ghost use Rattle.metroid_player.specs.Record.{freshChannel, freshPlayer, endedPlayer, cursorOf, channelFits};
-
-pub const INVALID_RECORD: u32 = 16;
 
 #[repr(C)]
 pub struct Channel {
@@ -14,8 +12,8 @@ pub struct Channel {
     pub loop_start: u16,
     pub counter: u8,
     // 0: none yet
-    pub length: u8,
-    pub left: u8,
+    pub length: Frames,
+    pub left: Frames,
     pub sounding: u8,
 }
 
@@ -30,12 +28,13 @@ pub struct Player {
 pub(crate) fn fresh_channel() -> Channel
     ensures { λ r. ⌜ r ≡ freshChannel ⌝ }
 {
+    let none = Frames { count: 0 };
     Channel {
         next: 0,
         loop_start: 0,
         counter: 0,
-        length: 0,
-        left: 0,
+        length: none,
+        left: none,
         sounding: 0,
     }
 }
@@ -67,9 +66,7 @@ pub(crate) fn cursor_of(channel: Channel) -> Cursor
 {
     let next = channel.next as usize;
     let loop_start = channel.loop_start as usize;
-    let length = Frames {
-        count: channel.length,
-    };
+    let length = channel.length;
     Cursor {
         next,
         loop_start,
@@ -91,10 +88,10 @@ pub(crate) fn channel_fits(voice: Voice, channel: Channel) -> bool
         if command::DATA_LIMIT < channel.loop_start as usize {
             return false;
         }
-        if channel.left == 0 {
+        if channel.left.count == 0 {
             return true;
         }
-        if channel.length < channel.left {
+        if channel.length.count < channel.left.count {
             return false;
         }
         return command::is_note(kind, channel.sounding);

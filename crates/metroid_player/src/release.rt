@@ -1,7 +1,7 @@
 // How long a triangle note sounds.
-use metroid_channel::channel::Frames;
-use metroid_channel::channel::QuarterFrames;
-use metroid_format::field;
+use engine_base::time::Frames;
+use engine_base::time::QuarterFrames;
+use engine_base::field;
 ghost use mathlib.Core.Path.{_≡_};
 ghost use Rattle.metroid_player.specs.Release.{dynamic, releaseOf, toldRelease};
 

@@ -8,25 +8,25 @@ use mir.Syntax.{w32}
 use mir.Val.{Fits}
 use lib.ListN.{length, getD, drop, drop-of-length-le}
 use lib.Seq.{sets, length-sets, drop-cons}
-use Rattle.metroid_format.specs.Number.{FaultWithin}
+use Rattle.engine_base.specs.Refusal.{FaultWithin}
 use Rattle.metroid_format.specs.Command.{data-limit}
-use Rattle.metroid_format.proofs.Buffers.{sets-append}
+use Rattle.engine_base.proofs.Buffers.{sets-append}
 use Rattle.metroid_player.specs.Event.{toldEvent}
-use Rattle.metroid_player.specs.Frame.{answerKind, answerPlace, toldEvents, Placed}
+use Rattle.metroid_player.specs.Frame.{answerKind, answerPlace, toldEvents, AnswerWithin}
 use Rattle.metroid_player.specs.declared.event.Event.{Event}
 use Rattle.metroid_player.specs.declared.event.Sound.{Sound}
 use Rattle.metroid_player.specs.declared.frame.Answer.{Answer}
 use Rattle.hemgosling.proofs.Sizes.{channel-fits, offset-fits}
 
-module _ (a : Answer) (number channel at : ℕ) (e : a ≡ Answer.Fault number channel at) (p : Placed 4 a) where
-  placed : (channel < 4) × FaultWithin data-limit number at
-  placed = subst (Placed 4) e p
+module _ (a : Answer) (number channel at : ℕ) (e : a ≡ Answer.Fault number channel at) (p : AnswerWithin 4 a) where
+  within : (channel < 4) × FaultWithin data-limit number at
+  within = subst (AnswerWithin 4) e p
 
   pub fault-channel : Fits w32 channel
-  fault-channel = channel-fits (placed .0)
+  fault-channel = channel-fits (within .0)
 
   pub fault-offset : Fits w32 at
-  fault-offset = offset-fits (placed .1)
+  fault-offset = offset-fits (within .1)
 
 two : (a : Answer) → length (answerPlace a) ≡ 2
 two Answer.Events = refl

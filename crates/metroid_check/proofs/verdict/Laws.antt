@@ -10,7 +10,7 @@ use lib.Dec.{leb}
 use lib.ListN.{length, getD, drop, drop-of-length-le}
 use lib.Seq.{drop-cons}
 use Rattle.metroid_format.specs.Header.{openTrack}
-use Rattle.metroid_format.proofs.Picks.{pick-eq, pick-ne}
+use Rattle.engine_base.proofs.Picks.{pick-eq, pick-ne}
 use Rattle.metroid_format.specs.declared.bank.Places.{Places}
 use Rattle.metroid_format.specs.declared.header.Voice.{Voice}
 use Rattle.metroid_format.specs.declared.header.Track.{Track}

@@ -8,18 +8,18 @@ use lib.Dec.{leb, eqb}
 use lib.ListN.{length}
 use Rattle.metroid_format.specs.Command.{data-limit}
 use Rattle.metroid_format.specs.Header.{openTrack}
-use Rattle.metroid_format.proofs.Picks.{by-test}
+use Rattle.engine_base.proofs.Picks.{by-test}
 use Rattle.metroid_format.proofs.header.Opening.{opens, unopened}
 use Rattle.metroid_format.proofs.command.Laws.{FinishWithin}
-use Rattle.metroid_channel.proofs.timeline.Offsets.{track-within}
-use Rattle.metroid_channel.proofs.timeline.Walked.{timeline-walk}
+use Rattle.metroid_format.proofs.timeline.Offsets.{track-within}
+use Rattle.metroid_format.proofs.timeline.Walked.{timeline-walk}
 use Rattle.metroid_format.specs.declared.bank.Places.{Places}
 use Rattle.metroid_format.specs.declared.header.Voice.{Voice}
 use Rattle.metroid_format.specs.declared.header.Track.{Track}
 use Rattle.metroid_format.specs.declared.command.Finish.{Finish}
-use Rattle.metroid_player.specs.Frame.{channelSource}
-use Rattle.metroid_player.proofs.frame.Counts.{source-within}
-use Rattle.metroid_check.specs.Verdict.{stopOf, sooner, soonestFrom, verdictBy, verdictOf, Placed}
+use Rattle.metroid_format.specs.Channel.{channelSource}
+use Rattle.metroid_format.proofs.channel.Offsets.{source-within}
+use Rattle.metroid_check.specs.Verdict.{stopOf, sooner, soonestFrom, verdictBy, verdictOf, VerdictWithin}
 use Rattle.metroid_check.specs.declared.verdict.Soonest.{Soonest}
 
 -- one of the channels below n
@@ -46,15 +46,15 @@ module _ (bank : List ℕ) (track : Track) where
   soonest-below n i (v ∷ vs) e =
       sooner-below n (stopOf bank track i v) _ (stop-below n i v (omega arith)) (soonest-below n (i + 1) vs (omega arith))
 
-by-soonest : (s : Soonest) → Below 4 s → Placed (verdictBy s)
+by-soonest : (s : Soonest) → Below 4 s → VerdictWithin (verdictBy s)
 by-soonest Soonest.Nothing p = (omega arith, omega arith)
 by-soonest (Soonest.Stop frame i Finish.End) (h, _) = h
 by-soonest (Soonest.Stop frame i (Finish.Refused number at)) p = p
 
-pub verdict-placed : (bank : List ℕ) (places : Places) (track : ℕ) → Placed (verdictOf bank places track)
+pub verdict-within : (bank : List ℕ) (places : Places) (track : ℕ) → VerdictWithin (verdictOf bank places track)
 unfolding verdictOf
-verdict-placed bank places track =
-    by-test Placed (eqb (openTrack bank places track .number) 0)
+verdict-within bank places track =
+    by-test VerdictWithin (eqb (openTrack bank places track .number) 0)
     (λ e.
     let opened = openTrack bank places track .track in
     by-soonest (soonestFrom bank opened 0 (opened .voices)) (soonest-below bank opened 4 0 (opened .voices) (omega (arith, opens bank places track (eqb-true _ _ e) .four)))) λ e.

@@ -7,7 +7,7 @@ use native.Mathlib.Omega.{arith}
 use borrow.Author.Tests.{eqb-true, eqb-false, leb-true, leb-false, lt-leb}
 use lib.Dec.{leb, eqb, lit<}
 use lib.ListN.{length, getD}
-use Rattle.metroid_format.specs.Number.{FaultWithin}
+use Rattle.engine_base.specs.Refusal.{FaultWithin}
 use Rattle.metroid_format.specs.Command.{commandAt, commandOf, noteAfter, isKey, isPreset, isNote, wordOf}
 use Rattle.metroid_format.specs.declared.command.Kind.{Kind}
 use Rattle.metroid_format.specs.declared.command.Kind.the-variants.{Melodic, Noise}
@@ -16,7 +16,7 @@ use Rattle.metroid_format.specs.declared.command.Command.the-variants.{E
 use Rattle.metroid_format.specs.declared.command.Decoded.{Decoded}
 use Rattle.metroid_format.specs.declared.command.Decoded.the-variants.{Found, Refused}
 use Rattle.metroid_format.specs.declared.command.Finish.{Finish}
-use Rattle.metroid_format.proofs.Picks.{by-test, false-true, picks}
+use Rattle.engine_base.proofs.Picks.{by-test, false-true, picks}
 
 -- a command that stands at an offset, with the offset after it
 pub data Stands (kind : Kind) (bytes : List ℕ) (at : ℕ) : Command → ℕ → Type 0 where

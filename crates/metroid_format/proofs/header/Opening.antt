@@ -8,8 +8,8 @@ use borrow.Author.Tests.{eqb-true, leb-true}
 use borrow.Author.Needs.{needs}
 use lib.Dec.{eqb, leb, ltb}
 use lib.ListN.{length, getD}
-use Rattle.metroid_format.specs.Pick.{pick}
-use Rattle.metroid_format.specs.Number.{
+use Rattle.engine_base.specs.Pick.{pick}
+use Rattle.engine_base.specs.Refusal.{
   wrong-size,
   table-outside,
   no-track,
@@ -21,7 +21,8 @@ use Rattle.metroid_format.specs.Number.{
   no-channel,
   Unopened,
 }
-use Rattle.metroid_format.specs.Bank.{bank-size, bank-start, bank-end, all, offsetOf, within}
+use Rattle.metroid_format.specs.Bank.{bank-size, bank-start, bank-end, offsetOf, within}
+use Rattle.engine_base.specs.Pick.{all}
 use Rattle.metroid_format.specs.Envelope.{envelopeAddress}
 use Rattle.metroid_format.specs.Header.{
   placesFit,
@@ -43,7 +44,7 @@ use Rattle.metroid_format.specs.Header.{
   trackOf,
   openTrack,
 }
-use Rattle.metroid_format.proofs.Picks.{by-test, false-true}
+use Rattle.engine_base.proofs.Picks.{by-test, false-true}
 use Rattle.metroid_format.specs.declared.command.Kind.{Kind}
 use Rattle.metroid_format.specs.declared.bank.Places.{Places}
 use Rattle.metroid_format.specs.declared.header.Voice.{Voice}

@@ -12,7 +12,7 @@ use mir.Val.{Fits}
 use lib.Dec.{leb, eqb, eqb·zero-suc, eqb·suc-suc}
 use lib.ListN.{length, getD, set, take, drop, drop-of-length-le}
 use lib.Seq.{sets, sets-eq, take-all, drop-cons, length-take-le}
-use Rattle.metroid_format.specs.Number.{past-data, invalid-word}
+use Rattle.engine_base.specs.Refusal.{past-data, invalid-word}
 use Rattle.metroid_format.specs.Command.{commandAt, wordOf, isEnd}
 use Rattle.metroid_format.specs.Words.{pair, commandOfWord, Straight, straightFrom, straightBy, straight, afterCommand, Decodes, Encoded, encoded, encodedBy, beforeRest, invalid, isEmpty, Encodes, finished, leftBy, readWords, wordsLeft, toldReading, Reads, putBy, writeWords, bytesLeft, toldWriting, Writes}
 use Rattle.metroid_format.specs.declared.command.Kind.{Kind}
@@ -25,9 +25,9 @@ use Rattle.metroid_format.specs.declared.words.Reading.{Reading}
 use Rattle.metroid_format.specs.declared.words.Reading.the-variants.{Wrote, Refused as Unread, NoRoom}
 use Rattle.metroid_format.specs.declared.words.Writing.{Writing}
 use Rattle.metroid_format.specs.declared.words.Writing.the-variants.{Wrote as Put, InvalidWord, NoRoom as NoSpace}
-use Rattle.metroid_format.proofs.Picks.{by-test, answers}
+use Rattle.engine_base.proofs.Picks.{by-test, answers}
 use Rattle.metroid_format.proofs.command.Laws.{Stands, found, next-within}
-use Rattle.metroid_format.proofs.Buffers.{Written, written-none, written-more}
+use Rattle.engine_base.proofs.Buffers.{Written, written-none, written-more}
 
 -- r is what `command_at` answers of a word's two bytes
 module _ (kind : Kind) (w : ℕ) (r : Decoded) (q : r ≡ commandAt kind (pair w) 0) where

@@ -10,7 +10,7 @@ use borrow.Author.Tests.{eq-eqb, le-leb, leb-true}
 use lib.Dec.{leb}
 use lib.ListN.{length, getD, take, drop, length-take, length-drop, length-append}
 use lib.Seq.{length-take-le, take-take, take-add, take-append-seam, drop-append-seam, drop-drop, getD-take, getD-drop, drop-cons}
-use Rattle.metroid_format.specs.Pick.{pick}
+use Rattle.engine_base.specs.Pick.{pick}
 use Rattle.metroid_format.specs.Command.{commandAt, wordOf, isEnd}
 use Rattle.metroid_format.specs.Words.{pair, commandOfWord, Straight, finished, straight, straightFrom, straightBy, afterCommand, Encoded, encoded, encodedBy, beforeRest, isEmpty, readWords, writeWords}
 use Rattle.metroid_format.specs.declared.command.Kind.{Kind}
@@ -22,7 +22,7 @@ use Rattle.metroid_format.specs.declared.command.Finish.{Finish}
 use Rattle.metroid_format.specs.declared.command.Finish.the-variants.{End as Ended, Refused as Faulty}
 use Rattle.metroid_format.specs.declared.words.Reading.the-variants.{Wrote, NoRoom}
 use Rattle.metroid_format.specs.declared.words.Writing.the-variants.{Wrote as Put}
-use Rattle.metroid_format.proofs.Picks.{by-test, false-true}
+use Rattle.engine_base.proofs.Picks.{by-test, false-true}
 use Rattle.metroid_format.proofs.command.Laws.{Stands, is-end, is-end-loop, is-begin, is-length, is-note, found, stands, note-small, next-after, next-within}
 use Rattle.metroid_format.proofs.words.Laws.{straight-next, word-stands}
 

@@ -14,7 +14,7 @@ use Rattle.metroid_format.specs.declared.command.Decoded.{Decoded}
 use Rattle.metroid_format.specs.declared.command.Decoded.the-variants.{Found, Refused}
 use Rattle.metroid_format.specs.declared.command.Finish.{Finish}
 use Rattle.metroid_format.specs.declared.command.Finish.the-variants.{End as Ended, Refused as Faulty}
-use Rattle.metroid_format.proofs.Picks.{by-test}
+use Rattle.engine_base.proofs.Picks.{by-test}
 use Rattle.metroid_format.proofs.command.Laws.{found, refused-near, next-within, FinishWithin, fault-further}
 
 module _ (kind : Kind) (bytes : List ℕ) where

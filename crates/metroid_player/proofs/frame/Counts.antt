@@ -1,27 +1,26 @@
 -- How many commands a channel can read in a frame.
-use Prim.Native.Nat.{ℕ, zero, suc, _+_, _*_, _≤_}
-use mathlib.Core.Bool.{Bool, true}
+use Prim.Native.Nat.{ℕ, zero, suc, _+_, _≤_}
+use mathlib.Core.Bool.{true}
 use mathlib.Core.List.{List, [], _∷_}
-use mathlib.Core.Path.{_≡_, refl, sym, _∙_}
+use mathlib.Core.Path.{_≡_, refl}
 use native.Mathlib.Omega.{arith}
-use borrow.Author.Tests.{leb-true}
-use lib.Dec.{leb, eqb}
-use lib.ListN.{length, set, length-take}
+use lib.Dec.{eqb}
+use lib.ListN.{set}
 use lib.Seq.{sets}
 use Rattle.metroid_format.specs.Command.{data-limit}
-use Rattle.metroid_channel.specs.Channel.{readUntil}
+use Rattle.metroid_format.specs.Channel.{channelSource, readUntil}
 use Rattle.metroid_format.specs.Header.{openTrack}
-use Rattle.metroid_format.proofs.Picks.{by-test, false-true}
-use Rattle.metroid_channel.proofs.channel.ReadBound.{Placed, count-bound}
+use Rattle.engine_base.proofs.Picks.{by-test}
+use Rattle.metroid_format.proofs.channel.ReadBound.{Looped, any-looped, count-bound}
+use Rattle.metroid_format.proofs.channel.Offsets.{source-within}
 use Rattle.metroid_format.specs.declared.bank.Places.{Places}
 use Rattle.metroid_format.specs.declared.header.Voice.{Voice}
 use Rattle.metroid_format.specs.declared.header.Track.{Track}
-use Rattle.metroid_channel.specs.declared.channel.Cursor.{Cursor}
-use Rattle.metroid_channel.specs.declared.channel.Stop.{Stop}
-use Rattle.metroid_player.specs.Record.{four, cursorOf, channelFits, channelsFit}
+use Rattle.metroid_format.specs.declared.channel.Cursor.{Cursor}
+use Rattle.metroid_format.specs.declared.channel.Stop.{Stop}
+use Rattle.metroid_player.specs.Record.{four, cursorOf, channelsFit}
 use Rattle.metroid_player.specs.Counts.{pairs, most-commands, AtMost}
 use Rattle.metroid_player.specs.Frame.{
-  channelSource,
   turnBy,
   turnOf,
   Settled,
@@ -38,11 +37,11 @@ use Rattle.metroid_player.specs.declared.frame.Turn.{Turn}
 use Rattle.metroid_player.specs.declared.frame.Answer.{Answer}
 use Rattle.metroid_player.specs.declared.frame.Framed.{Framed}
 
--- each used channel's cursor is placed
-abbrev pub AllPlaced : ℕ → List Voice → List Channel → Type 0
-AllPlaced extra [] cs = Unit {0}
-AllPlaced extra (v ∷ vs) [] = Unit {0}
-AllPlaced extra (v ∷ vs) (c ∷ cs) = (v .used ≡ true → Placed data-limit extra (cursorOf c)) × AllPlaced extra vs cs
+-- in each used channel a counter above 0 goes back to a byte after a begin, unless there is an extra command
+abbrev pub AllLooped : ℕ → List Voice → List Channel → Type 0
+AllLooped extra [] cs = Unit {0}
+AllLooped extra (v ∷ vs) [] = Unit {0}
+AllLooped extra (v ∷ vs) (c ∷ cs) = (v .used ≡ true → Looped extra (cursorOf c)) × AllLooped extra vs cs
 
 module _ (most : ℕ) where
   set-most : (ns : List ℕ) (i n : ℕ) → n ≤ most → AtMost most ns → AtMost most (set ns i n)
@@ -72,25 +71,22 @@ module _ (most : ℕ) where
   framed-most track player s (Answer.Refused number) a = none-most
   framed-most track player s (Answer.Fault number i at) a = sets-most (four 0) 0 (s .counts) a none-most
 
-pub source-within : (bank : List ℕ) (track : Track) (voice : Voice) → length (channelSource bank track voice .bytes) ≤ 2 * pairs
-source-within bank track voice = rw length-take (omega arith)
-
 module _ (bank : List ℕ) (track : Track) (extra : ℕ) (one : extra ≤ 1) where
   turn-by-count : (channel : Channel) (cursor : Cursor) (count : ℕ) (stop : Stop) → turnBy channel cursor count stop .count ≡ count
   turn-by-count channel cursor count (Stop.Note b) = refl
   turn-by-count channel cursor count Stop.End = refl
   turn-by-count channel cursor count (Stop.Refused number at) = refl
 
-  turn-count : (voice : Voice) (channel : Channel) → (voice .used ≡ true → Placed data-limit extra (cursorOf channel)) →
+  turn-count : (voice : Voice) (channel : Channel) → (voice .used ≡ true → Looped extra (cursorOf channel)) →
       turnOf bank track voice channel .count ≤ most-commands + extra
   unfolding turnOf
   turn-count voice channel p =
       by-test Small (voice .used)
       (λ u.
-      by-test Small (eqb (channel .left) 0)
+      by-test Small (eqb (channel .left .count) 0)
       (λ _.
-      let reading = readUntil data-limit (channelSource bank track voice) (cursorOf channel) in
-      rw (turn-by-count channel (reading .cursor) (reading .count) (reading .stop))
+      let until = readUntil data-limit (channelSource bank track voice) (cursorOf channel) in
+      rw (turn-by-count channel (until .cursor) (until .count) (until .stop))
       (count-bound (channelSource bank track voice) pairs extra (source-within bank track voice)
       (cursorOf channel) one (p u))) λ _.
       omega arith) λ _.
@@ -99,7 +95,7 @@ module _ (bank : List ℕ) (track : Track) (extra : ℕ) (one : extra ≤ 1) whe
       Small : Turn → Type 0
       Small t = t .count ≤ most-commands + extra
 
-  settle-counts : (i : ℕ) (voices : List Voice) (channels : List Channel) → AllPlaced extra voices channels →
+  settle-counts : (i : ℕ) (voices : List Voice) (channels : List Channel) → AllLooped extra voices channels →
       AtMost (most-commands + extra) (settleFrom bank track i voices channels .counts)
   unfolding settleFrom
   settle-counts i [] cs p = tt
@@ -108,18 +104,18 @@ module _ (bank : List ℕ) (track : Track) (extra : ℕ) (one : extra ≤ 1) whe
       settle-by-most (most-commands + extra) bank track i v _ (turnOf bank track v c .turned) _ (turn-count v c p)
       (settle-counts (i + 1) vs cs ps)
 
-  -- every count of a frame, by what holds of a record that passes 16
-  pub frame-counts : (player : Player) → (channelsFit (track .voices) (player .channels) ≡ true → AllPlaced extra (track .voices) (player .channels)) →
+  -- every count of a frame
+  pub frame-counts : (player : Player) → AllLooped extra (track .voices) (player .channels) →
       AtMost (most-commands + extra) (frameOfTrack bank track player .counts)
   unfolding frameOfTrack
   frame-counts player p =
       by-test Small (channelsFit (track .voices) (player .channels))
-      (λ f.
+      (λ _.
       by-test Small (eqb (player .stopped) 0)
       (λ _.
       let s = settleFrom bank track 0 (track .voices) (player .channels) in
       framed-most (most-commands + extra) track player s (s .answer)
-      (settle-counts 0 (track .voices) (player .channels) (p f))) λ _.
+      (settle-counts 0 (track .voices) (player .channels) p)) λ _.
       none-most (most-commands + extra)) λ _.
       none-most (most-commands + extra)
     where
@@ -131,34 +127,10 @@ abbrev pub ByteCounters : List Channel → Type 0
 ByteCounters [] = Unit {0}
 ByteCounters (c ∷ cs) = (c .counter ≤ 255) × ByteCounters cs
 
-fit-placed : (voice : Voice) (channel : Channel) → channel .counter ≤ 255 → channelFits voice channel ≡ true → voice .used ≡ true →
-    Placed data-limit 1 (cursorOf channel)
-unfolding channelFits
-fit-placed voice channel b e u =
-    by-test P (voice .used)
-    (λ _.
-    by-test P (leb (channel .next) data-limit)
-    (λ n.
-    by-test P (leb (channel .«loop_start») data-limit)
-    (λ l _.
-    record { next-within = leb-true _ _ n; start-within = leb-true _ _ l; byte = b; looped = λ _. omega arith }) λ _ e.
-    absurd (false-true e)) λ _ e.
-    absurd (false-true e))
-    (λ f _. absurd (false-true (sym f ∙ u)))
-    e
-  where
-    P : Bool → Type 0
-    P fits = fits ≡ true → Placed data-limit 1 (cursorOf channel)
-
-fit-all : (voices : List Voice) (channels : List Channel) → ByteCounters channels → channelsFit voices channels ≡ true →
-    AllPlaced 1 voices channels
-fit-all [] cs b e = tt
-fit-all (v ∷ vs) [] b e = tt
-fit-all (v ∷ vs) (c ∷ cs) (b, bs) e =
-    by-test (λ fits. fits ≡ true → AllPlaced 1 (v ∷ vs) (c ∷ cs)) (channelFits v c)
-    (λ f e. (fit-placed v c b f, fit-all vs cs bs e))
-    (λ _ e. absurd (false-true e))
-    e
+byte-looped : (voices : List Voice) (channels : List Channel) → ByteCounters channels → AllLooped 1 voices channels
+byte-looped [] cs b = tt
+byte-looped (v ∷ vs) [] b = tt
+byte-looped (v ∷ vs) (c ∷ cs) (b, bs) = ((λ _. any-looped (cursorOf c) b), byte-looped vs cs bs)
 
 -- of any record whatever: one command more, where a counter above 0 goes back before the first begin
 pub any-counts : (bank : List ℕ) (places : Places) (track : ℕ) (player : Player) → ByteCounters (player .channels) →
@@ -168,5 +140,5 @@ any-counts bank places track player b =
     by-test (λ (f : Framed). AtMost (most-commands + 1) (f .counts)) (eqb (openTrack bank places track .number) 0)
     (λ _.
     let opened = openTrack bank places track .track in
-    frame-counts bank opened 1 (omega arith) player (fit-all (opened .voices) (player .channels) b)) λ _.
+    frame-counts bank opened 1 (omega arith) player (byte-looped (opened .voices) (player .channels) b)) λ _.
     none-most (most-commands + 1)

@@ -4,7 +4,7 @@ use mathlib.Core.List.{List}
 use mathlib.Core.Path.{_≡_, refl}
 use lib.Dec.{eqb}
 use Rattle.metroid_format.specs.Header.{openTrack}
-use Rattle.metroid_format.proofs.Picks.{by-test}
+use Rattle.engine_base.proofs.Picks.{by-test}
 use Rattle.metroid_format.specs.declared.bank.Places.{Places}
 use Rattle.metroid_format.specs.declared.header.Track.{Track}
 use Rattle.metroid_player.specs.Record.{four, channelsFit}

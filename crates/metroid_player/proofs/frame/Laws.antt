@@ -6,24 +6,24 @@ use mathlib.Core.Path.{_≡_, refl, sym, ap, _∙_}
 use native.Mathlib.Omega.{arith}
 use native.Mathlib.Numerals.{add-one}
 use lib.Dec.{leb}
-use lib.ListN.{length, getD, set, take, drop, drop-of-length-le, length-take, length-set}
-use lib.Seq.{sets, drop-cons, drop-drop, drop-set-lt}
+use lib.ListN.{length, getD, set, take, drop, drop-of-length-le, length-set}
+use lib.Seq.{sets, take-take, drop-cons, drop-drop, drop-set-lt}
 use borrow.Author.Tests.{leb-true}
-use Rattle.metroid_format.specs.Pick.{pick}
+use Rattle.engine_base.specs.Pick.{pick}
 use Rattle.metroid_format.specs.Command.{data-limit}
-use Rattle.metroid_channel.specs.Channel.{sourceOf, readUntil, toldReading}
-use Rattle.metroid_format.specs.Number.{Answers}
+use Rattle.metroid_format.specs.Channel.{sourceOf, channelSource, readUntil, toldUntil}
+use Rattle.engine_base.specs.Told.{Answers}
 use Rattle.metroid_format.specs.Bank.{lengths-size}
 use Rattle.metroid_format.specs.declared.header.Voice.{Voice}
 use Rattle.metroid_format.specs.declared.header.Track.{Track}
-use Rattle.metroid_channel.specs.declared.channel.Cursor.{Cursor}
-use Rattle.metroid_channel.specs.declared.channel.Stop.{Stop}
-use Rattle.metroid_channel.specs.declared.channel.Reading.{Reading}
-use Rattle.metroid_format.proofs.Picks.{by-test, false-true, pick-true, pick-false, pick-eq, pick-ne}
-use Rattle.metroid_channel.proofs.channel.ReadBound.{Placed, reads, reads-placed}
+use Rattle.metroid_format.specs.declared.channel.Cursor.{Cursor}
+use Rattle.metroid_format.specs.declared.channel.Stop.{Stop}
+use Rattle.metroid_format.specs.declared.channel.Until.{Until}
+use Rattle.engine_base.proofs.Picks.{by-test, false-true, pick-true, pick-false, pick-eq, pick-ne}
+use Rattle.metroid_format.proofs.channel.Offsets.{source-within, until-within}
 use Rattle.metroid_player.specs.Record.{four, endedPlayer, cursorOf, channelFits, channelsFit}
 use Rattle.metroid_player.specs.Event.{offEvent, eventOf}
-use Rattle.metroid_player.specs.Frame.{channelSource, begun, turnBy, oneOff, turnOfReading, turnOf, Settled, settled, settleOn, settleBy, settleTurn, settleFrom, eventless, framed}
+use Rattle.metroid_player.specs.Frame.{begun, turnBy, oneOff, turnOfUntil, turnOf, Settled, settled, settleOn, settleBy, settleTurn, settleFrom, eventless, framed}
 use Rattle.metroid_player.specs.declared.record.Channel.{Channel}
 use Rattle.metroid_player.specs.declared.event.Event.{Event}
 use Rattle.metroid_player.specs.declared.frame.Turned.{Turned}
@@ -32,15 +32,15 @@ use Rattle.metroid_player.specs.declared.frame.Answer.{Answer}
 use Rattle.metroid_player.specs.declared.frame.Framed.{Framed}
 use Rattle.metroid_player.specs.declared.record.Player.{Player}
 
-pub nothing-off : (c : Channel) → c .left ≡ 0 → c ≡ oneOff c
+pub nothing-off : (c : Channel) → c .left .count ≡ 0 → c ≡ oneOff c
 nothing-off c e =
-    let q : c .left ≡ c .left - 1 = omega arith in
+    let q : c .left .count ≡ c .left .count - 1 = omega arith in
     λ i. record {
       next = c .next;
       «loop_start» = c .«loop_start»;
       counter = c .counter;
       length = c .length;
-      left = q i;
+      left = record { count = q i };
       sounding = c .sounding;
     }
 
@@ -97,36 +97,35 @@ pub reading-is : (bank : List ℕ) (track : Track) (v : Voice) (c : Channel)
     (bytes : List ℕ) → bytes ≡ take data-limit (drop (v .«data») bank)
     → (lengths : List ℕ) → lengths ≡ take lengths-size (drop (track .lengths) bank)
     → (cursor : Cursor) → cursor ≡ cursorOf c
-    → (r : Reading) → Answers toldReading r (readUntil data-limit (sourceOf (v .kind) bytes lengths (track .window)) cursor)
+    → (r : Until) → Answers toldUntil r (readUntil data-limit (sourceOf (v .kind) (take data-limit bytes) lengths (track .window)) cursor)
     → r ≡ readUntil data-limit (channelSource bank track v) (cursorOf c)
-reading-is bank track v c bytes d lengths l cursor k r a = a .same ∙ rw (d, l, k)
+reading-is bank track v c bytes d lengths l cursor k r a =
+    let same : data-limit ≤ data-limit = omega arith in
+    a .same ∙ rw (d, l, k, take-take {A = ℕ} data-limit data-limit)
 
 -- r is what `read_channel` answers
-module _ (c : Channel) (r q : Reading) (e : r ≡ q) where
-  pub turn-read : (stop : Stop) → r .stop ≡ stop → turnBy c (r .cursor) (r .count) stop ≡ turnOfReading c q
+module _ (c : Channel) (r q : Until) (e : r ≡ q) where
+  pub turn-read : (stop : Stop) → r .stop ≡ stop → turnBy c (r .cursor) (r .count) stop ≡ turnOfUntil c q
   turn-read stop s = rw (← e) (ap (turnBy c (r .cursor) (r .count)) (sym s))
 
   pub turn-begun : (b : ℕ) → r .stop ≡ Stop.Note b → (begins : Channel) → begins ≡ begun (r .cursor) b
-      → record { turned = Turned.Plays; began = true; channel = begins; count = r .count } ≡ turnOfReading c q
+      → record { turned = Turned.Plays; began = true; channel = begins; count = r .count } ≡ turnOfUntil c q
   turn-begun b s begins f = rw f (turn-read (Stop.Note b) s)
 
 module _ (bank : List ℕ) (track : Track) (v : Voice) (c : Channel) where
   -- from a record that passes 16 the offsets stay within the limit
-  pub stays-within : (r : Reading) → r ≡ readUntil data-limit (channelSource bank track v) (cursorOf c) → (c .next ≤ data-limit) × (c .«loop_start» ≤ data-limit) → c .counter < 256
+  pub stays-within : (r : Until) → r ≡ readUntil data-limit (channelSource bank track v) (cursorOf c) → (c .next ≤ data-limit) × (c .«loop_start» ≤ data-limit)
       → (r .cursor .next ≤ data-limit) × (r .cursor .«loop_start» ≤ data-limit)
-  stays-within r e h b =
-      let s = channelSource bank track v in
-      let w : length (s .bytes) ≤ data-limit = omega (arith, length-take data-limit (drop (v .«data») bank)) in
-      let p : Placed data-limit 1 (cursorOf c) = record { next-within = h .0; start-within = h .1; byte = omega arith; looped = λ _. omega arith } in
-      let q = reads-placed s data-limit 1 w (reads s 128 1 w (cursorOf c) (omega arith) p) p in
-      rw e (q .next-within, q .start-within)
+  stays-within r e h =
+      let q = until-within (channelSource bank track v) data-limit (source-within bank track v) (cursorOf c) (record { next = h .0; start = h .1 }) in
+      rw e (q .cursor .next, q .cursor .start)
 
   -- by its use and the frames left
-  pub turn-reading : (t : Turn) → v .used ≡ true → c .left ≡ 0 → t ≡ turnOfReading c (readUntil data-limit (channelSource bank track v) (cursorOf c)) → t ≡ turnOf bank track v c
+  pub turn-reading : (t : Turn) → v .used ≡ true → c .left .count ≡ 0 → t ≡ turnOfUntil c (readUntil data-limit (channelSource bank track v) (cursorOf c)) → t ≡ turnOf bank track v c
   unfolding turnOf
   turn-reading t u z e = pick-true _ _ _ t u (pick-eq _ _ _ _ t z e)
 
-  pub turn-sounding : v .used ≡ true → (c .left ≡ 0 → ⊥) → record { turned = Turned.Plays; began = false; channel = c; count = 0 } ≡ turnOf bank track v c
+  pub turn-sounding : v .used ≡ true → (c .left .count ≡ 0 → ⊥) → record { turned = Turned.Plays; began = false; channel = c; count = 0 } ≡ turnOf bank track v c
   unfolding turnOf
   turn-sounding u z = pick-true _ _ _ _ u (pick-ne _ _ _ _ _ z refl)
 

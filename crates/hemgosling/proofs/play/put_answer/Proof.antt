@@ -23,5 +23,5 @@ put-answer-spec =
     let f2 = f3 .before .before .before .before .before .before in
     let f1 = f2 .before .before .before .before .before in
     let a = f1 .before .before .before .before .before in
-    answer-put (a .args .answer) (a .args .t3) (a .args .events) (now (a .args .out)) _ (f1 .before .before .kind-of .ensures) _ (f1 .fill .ensures) _ (f2 .fill2 .ensures)
-    _ (f3 .before .before .place-of .ensures) _ (f3 .fill3 .ensures) _ (c .before .before .put-events .ensures) (a .good .1 .1 .0 .1 .0 .1)))
+    answer-put (a .args .answer) (a .args .t3) (a .args .events) (now (a .args .out)) _ (f1 .before .before .kind-of .ensures) _ (f1 .fill32 .ensures) _ (f2 .fill322 .ensures)
+    _ (f3 .before .before .place-of .ensures) _ (f3 .fill323 .ensures) _ (c .before .before .put-events .ensures) (a .good .1 .1 .0 .1 .0 .1)))

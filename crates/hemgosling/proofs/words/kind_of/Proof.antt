@@ -1,4 +1,4 @@
-use Rattle.metroid_format.proofs.Picks.{picks}
+use Rattle.engine_base.proofs.Picks.{picks}
 use Rattle.hemgosling.proofs.words.kind_of.Statement.{statement}
 use Rattle.hemgosling.proofs.words.kind_of.Tie as tie
 

@@ -15,6 +15,6 @@ tell-writing-spec =
     (λ c. search needs)
     (λ c. search needs)
     (λ c. search needs)
-    (λ c. rw (c .before .before .before .before .before .before .writing .given .1) (record { says = refl; shows = c .before .before .fill .ensures }))
+    (λ c. rw (c .before .before .before .before .before .before .writing .given .1) (record { says = refl; shows = c .before .before .fill32 .ensures }))
     (λ c. search needs)
     (λ c. search needs))

@@ -1,5 +1,5 @@
 use borrow.Author.Needs.{needs}
-use Rattle.metroid_format.proofs.Picks.{picks}
+use Rattle.engine_base.proofs.Picks.{picks}
 use Rattle.metroid_check.proofs.verdict.sooner_of.Statement.{statement}
 use Rattle.metroid_check.proofs.verdict.sooner_of.Tie as tie
 

@@ -1,7 +1,7 @@
 use Prim.Native.Nat.{_+_, _≤_, _<_}
 use native.Mathlib.Omega.{arith}
 use Rattle.metroid_format.specs.Bank.{within, bank-end}
-use Rattle.metroid_format.proofs.Picks.{picks}
+use Rattle.engine_base.proofs.Picks.{picks}
 use Rattle.metroid_format.proofs.bank.fits.Statement.{statement}
 use Rattle.metroid_format.proofs.bank.fits.Tie as tie
 

@@ -1,6 +1,6 @@
 use borrow.Author.Needs.{needs}
 use Rattle.metroid_format.specs.Command.{commandAt, commandOf}
-use Rattle.metroid_format.proofs.Picks.{picks}
+use Rattle.engine_base.proofs.Picks.{picks}
 use Rattle.metroid_format.proofs.command.command_at.Statement.{statement}
 use Rattle.metroid_format.proofs.command.command_at.Tie as tie
 

@@ -1,6 +1,6 @@
 use borrow.Author.Needs.{needs}
 use Rattle.metroid_format.specs.Command.{isKey}
-use Rattle.metroid_format.proofs.Picks.{picks}
+use Rattle.engine_base.proofs.Picks.{picks}
 use Rattle.metroid_format.proofs.command.is_key.Statement.{statement}
 use Rattle.metroid_format.proofs.command.is_key.Tie as tie
 

@@ -1,5 +1,5 @@
 use Rattle.metroid_format.specs.Command.{isPreset}
-use Rattle.metroid_format.proofs.Picks.{picks}
+use Rattle.engine_base.proofs.Picks.{picks}
 use Rattle.metroid_format.proofs.command.is_preset.Statement.{statement}
 use Rattle.metroid_format.proofs.command.is_preset.Tie as tie
 

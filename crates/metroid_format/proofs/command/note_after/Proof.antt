@@ -1,6 +1,6 @@
 use borrow.Author.Needs.{needs}
 use Rattle.metroid_format.specs.Command.{noteAfter}
-use Rattle.metroid_format.proofs.Picks.{picks}
+use Rattle.engine_base.proofs.Picks.{picks}
 use Rattle.metroid_format.proofs.command.note_after.Statement.{statement}
 use Rattle.metroid_format.proofs.command.note_after.Tie as tie
 

@@ -1,6 +1,6 @@
 use borrow.Author.Needs.{needs}
 use Rattle.metroid_format.specs.Envelope.{envelopeEnds}
-use Rattle.metroid_format.proofs.Picks.{guards}
+use Rattle.engine_base.proofs.Picks.{guards}
 use Rattle.metroid_format.proofs.envelope.ends.Statement.{statement}
 use Rattle.metroid_format.proofs.envelope.ends.Tie as tie
 

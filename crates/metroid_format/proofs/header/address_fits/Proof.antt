@@ -1,6 +1,6 @@
 use borrow.Author.Needs.{needs}
 use Rattle.metroid_format.specs.Header.{addressFits}
-use Rattle.metroid_format.proofs.Picks.{picks}
+use Rattle.engine_base.proofs.Picks.{picks}
 use Rattle.metroid_format.proofs.header.address_fits.Statement.{statement}
 use Rattle.metroid_format.proofs.header.address_fits.Tie as tie
 

@@ -1,6 +1,6 @@
 use borrow.Author.Needs.{needs}
 use Rattle.metroid_format.specs.Header.{allUnused}
-use Rattle.metroid_format.proofs.Picks.{picks, guards}
+use Rattle.engine_base.proofs.Picks.{picks, guards}
 use Rattle.metroid_format.proofs.header.all_unused.Statement.{statement}
 use Rattle.metroid_format.proofs.header.all_unused.Tie as tie
 

@@ -1,7 +1,7 @@
 use native.Mathlib.Omega.{arith}
 use borrow.Author.Needs.{needs}
 use Rattle.metroid_format.specs.Header.{openTrack, numberOf, headerOf}
-use Rattle.metroid_format.proofs.Picks.{answers, guards}
+use Rattle.engine_base.proofs.Picks.{answers, guards}
 use Rattle.metroid_format.proofs.header.Answered.{refuses, opens-as}
 use Rattle.metroid_format.proofs.header.open.Statement.{statement}
 use Rattle.metroid_format.proofs.header.open.Tie as tie

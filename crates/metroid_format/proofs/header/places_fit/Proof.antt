@@ -2,7 +2,7 @@ use Prim.Native.Nat.{_<_}
 use native.Mathlib.Omega.{arith}
 use borrow.Author.Needs.{needs}
 use Rattle.metroid_format.specs.Header.{placesFit}
-use Rattle.metroid_format.proofs.Picks.{guards}
+use Rattle.engine_base.proofs.Picks.{guards}
 use Rattle.metroid_format.proofs.header.places_fit.Statement.{statement}
 use Rattle.metroid_format.proofs.header.places_fit.Tie as tie
 

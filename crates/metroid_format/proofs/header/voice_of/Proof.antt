@@ -1,6 +1,6 @@
 use borrow.Author.Needs.{needs}
 use Rattle.metroid_format.specs.Header.{voiceOf}
-use Rattle.metroid_format.proofs.Picks.{picks}
+use Rattle.engine_base.proofs.Picks.{picks}
 use Rattle.metroid_format.proofs.header.voice_of.Statement.{statement}
 use Rattle.metroid_format.proofs.header.voice_of.Tie as tie
 

@@ -2,7 +2,7 @@ use Prim.Native.Nat.{_-_}
 use native.Mathlib.Omega.{arith}
 use borrow.Author.Needs.{needs}
 use lib.ListN.{length}
-use Rattle.metroid_format.proofs.Buffers.{kept}
+use Rattle.engine_base.proofs.Buffers.{kept}
 use Rattle.metroid_format.proofs.command.Laws.{word-fits}
 use Rattle.metroid_format.proofs.words.Laws.{Midway, midway-none, midway-more, decodes-past, decodes-refused, decodes-end}
 use Rattle.metroid_format.proofs.words.decode.Statement.{statement}

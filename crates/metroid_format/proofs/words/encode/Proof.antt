@@ -2,7 +2,7 @@ use Prim.Native.Nat.{_-_}
 use native.Mathlib.Omega.{arith}
 use borrow.Author.Needs.{needs}
 use lib.ListN.{length}
-use Rattle.metroid_format.proofs.Buffers.{kept}
+use Rattle.engine_base.proofs.Buffers.{kept}
 use Rattle.metroid_format.proofs.words.Laws.{Halfway, halfway-none, halfway-more, encodes-past, encodes-refused, encodes-end, bytes-fit}
 use Rattle.metroid_format.proofs.words.encode.Statement.{statement}
 use Rattle.metroid_format.proofs.words.encode.Tie as tie

@@ -11,7 +11,7 @@ put-pair-spec =
     (λ c. search needs)
     (λ c κs. search needs)
     (λ c. search needs)
-    (λ c. rw (c .if2 .taken) (c .before .before .before .put-byte .ensures))
+    (λ c. rw (c .if2 .taken) (c .before .before .before .put8 .ensures))
     (λ c. search needs)
     (λ c. search needs)
     (λ c κs. search needs)

@@ -11,11 +11,11 @@ use Rattle.metroid_player.proofs.ctrl1.ctrl1_at.Tie as tie
 
 -- the rest of the envelope gives, at what is left of the index, what the whole gives at the index
 abbrev Inv-loop : tie.InvT-loop
-Inv-loop default envelope index i₀ i =
-    (i ≤ length envelope) × (ctrl1At default (drop i envelope) (index - i) ≡ ctrl1At default envelope index)
+Inv-loop default envelope last i₀ i =
+    (i ≤ length envelope) × (ctrl1At default (drop i envelope) (last - i) ≡ ctrl1At default envelope last)
 
 abbrev μ-loop : tie.MeasureT-loop
-μ-loop default envelope index i₀ i = length envelope - i
+μ-loop default envelope last i₀ i = length envelope - i
 
 loop-holds : tie.Need-loop-holds Inv-loop μ-loop
 loop-holds c = (search needs, simp unary-clauses)
@@ -75,6 +75,7 @@ ctrl1-at-spec =
     (tie.spec
     Inv-loop
     μ-loop
+    (λ c. search needs)
     loop-holds
     shared-slice-read-v
     returns

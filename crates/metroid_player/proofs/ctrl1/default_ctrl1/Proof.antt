@@ -1,5 +1,5 @@
 use Rattle.metroid_player.specs.Ctrl1.{defaultCtrl1}
-use Rattle.metroid_format.proofs.Picks.{picks}
+use Rattle.engine_base.proofs.Picks.{picks}
 use Rattle.metroid_player.proofs.ctrl1.default_ctrl1.Statement.{statement}
 use Rattle.metroid_player.proofs.ctrl1.default_ctrl1.Tie as tie
 

@@ -1,6 +1,6 @@
 use borrow.Author.Needs.{needs}
 use Rattle.metroid_player.specs.Event.{melodicNote}
-use Rattle.metroid_format.proofs.Picks.{picks}
+use Rattle.engine_base.proofs.Picks.{picks}
 use Rattle.metroid_player.proofs.event.melodic_note.Statement.{statement}
 use Rattle.metroid_player.proofs.event.melodic_note.Tie as tie
 

@@ -1,5 +1,5 @@
 use Rattle.metroid_player.specs.Event.{melodicRest}
-use Rattle.metroid_format.proofs.Picks.{picks}
+use Rattle.engine_base.proofs.Picks.{picks}
 use Rattle.metroid_player.proofs.event.melodic_rest.Statement.{statement}
 use Rattle.metroid_player.proofs.event.melodic_rest.Tie as tie
 

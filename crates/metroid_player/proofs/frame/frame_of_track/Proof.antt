@@ -1,7 +1,7 @@
 use borrow.Author.Needs.{needs}
 use mathlib.Core.Path.{sym, _∙_}
 use Rattle.metroid_player.specs.Frame.{frameOfTrack}
-use Rattle.metroid_format.proofs.Picks.{picks}
+use Rattle.engine_base.proofs.Picks.{picks}
 use Rattle.metroid_player.proofs.frame.frame_of_track.Statement.{statement}
 use Rattle.metroid_player.proofs.frame.frame_of_track.Tie as tie
 

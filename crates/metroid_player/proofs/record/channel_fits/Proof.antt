@@ -1,6 +1,6 @@
 use borrow.Author.Needs.{needs}
 use Rattle.metroid_player.specs.Record.{channelFits, soundFits}
-use Rattle.metroid_format.proofs.Picks.{picks}
+use Rattle.engine_base.proofs.Picks.{picks}
 use Rattle.metroid_player.proofs.record.channel_fits.Statement.{statement}
 use Rattle.metroid_player.proofs.record.channel_fits.Tie as tie
 

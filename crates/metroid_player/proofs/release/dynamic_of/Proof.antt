@@ -2,7 +2,7 @@ use Prim.Native.Nat.{ℕ, _-_, _*_, min}
 use mathlib.Core.Path.{_≡_}
 use native.Mathlib.Omega.{arith}
 use borrow.Author.Needs.{needs}
-use Rattle.metroid_channel.specs.declared.channel.Frames.{Frames}
+use Rattle.engine_base.specs.declared.time.Frames.{Frames}
 use Rattle.metroid_player.specs.Release.{dynamic}
 use Rattle.metroid_player.proofs.release.dynamic_of.Statement.{statement}
 use Rattle.metroid_player.proofs.release.dynamic_of.Tie as tie

@@ -1,5 +1,5 @@
 use borrow.Author.Needs.{needs}
-use Rattle.metroid_format.proofs.Picks.{pick-eq, pick-ne, answers}
+use Rattle.engine_base.proofs.Picks.{pick-eq, pick-ne, answers}
 use Rattle.metroid_player.specs.Frame.{frameOf, toldFramed}
 use Rattle.metroid_player.proofs.record.Player.frame.Statement.{statement}
 use Rattle.metroid_player.proofs.record.Player.frame.Tie as tie

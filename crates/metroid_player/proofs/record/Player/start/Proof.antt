@@ -1,5 +1,5 @@
 use borrow.Author.Needs.{needs}
-use Rattle.metroid_format.proofs.Picks.{answers}
+use Rattle.engine_base.proofs.Picks.{answers}
 use Rattle.metroid_player.specs.Frame.{startOf, toldStarted}
 use Rattle.metroid_player.proofs.record.Player.start.Statement.{statement}
 use Rattle.metroid_player.proofs.record.Player.start.Tie as tie

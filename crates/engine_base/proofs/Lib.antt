@@ -1,0 +1,3 @@
+pub mod Picks
+pub mod Fuel
+pub mod Buffers

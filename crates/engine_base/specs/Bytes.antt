@@ -1,0 +1,8 @@
+-- Words in lent bytes.
+use Prim.Native.Nat.{ℕ, _+_, _*_}
+use mathlib.Core.List.{List}
+use lib.ListN.{getD}
+
+-- words are little-endian
+unfoldable pub wordAt : List ℕ → ℕ → ℕ
+wordAt bytes at = getD bytes at 0 + 256 * getD bytes (at + 1) 0

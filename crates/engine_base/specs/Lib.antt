@@ -1,0 +1,4 @@
+pub mod Pick
+pub mod Refusal
+pub mod Told
+pub mod Bytes

@@ -1,3 +1,0 @@
-pub mod ReadSteps
-pub mod Stepped
-pub mod ReadBound

@@ -1,2 +1,0 @@
-pub mod Channel
-pub mod Timeline

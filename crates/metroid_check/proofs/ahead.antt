@@ -1,0 +1,5 @@
+pub mod Running
+pub mod Settling
+pub mod Framing
+pub mod Starting
+pub mod Foreseen

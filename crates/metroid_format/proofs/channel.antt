@@ -1,0 +1,4 @@
+pub mod ReadSteps
+pub mod Stepped
+pub mod ReadBound
+pub mod Offsets
