@@ -19,6 +19,8 @@ pub record Steps (bank : List ℕ) (places : Places) (track : ℕ) (player : Pla
   pub told : Tells (toldFramed (frameOf bank places track player)) buffer number buffer′
   pub stepped : player′ ≡ frameOf bank places track player .player
 
+-- Below: only private contracts and laws use these.
+
 -- what a frame leaves of its answer beside the buffer
 abbrev pub steppedOf : Framed → Stepped
 steppedOf f = record { number = answerNumber (f .answer); player = f .player }

@@ -12,17 +12,16 @@ use Rattle.metroid_format.specs.declared.bank.Places.{Places}
 use Rattle.metroid_format.specs.declared.header.Voice.{Voice}
 use Rattle.metroid_format.specs.declared.header.Track.{Track}
 use Rattle.metroid_format.specs.declared.command.Finish.{Finish}
-use Rattle.metroid_format.specs.declared.timeline.Timeline.{Timeline}
 use Rattle.metroid_format.specs.Channel.{channelSource}
 use Rattle.metroid_check.specs.declared.verdict.Soonest.{Soonest}
 use Rattle.metroid_check.specs.declared.verdict.Verdict.{Verdict}
 
-abbrev pub stopOfTimeline : ℕ → Timeline → Soonest
-stopOfTimeline i timeline = Soonest.Stop (timeline .frames) i (timeline .finish)
-
 -- the i-th channel by itself
 unfoldable pub stopOf : List ℕ → Track → ℕ → Voice → Soonest
-stopOf bank track i voice = pick (voice .used) (stopOfTimeline i (timelineOf (channelSource bank track voice))) Soonest.Nothing
+stopOf bank track i voice =
+    pick (voice .used)
+    (Soonest.Stop (timelineOf (channelSource bank track voice) .frames) i (timelineOf (channelSource bank track voice) .finish))
+    Soonest.Nothing
 
 -- in one frame the channel that goes first stops it
 abbrev pub sooner : Soonest → Soonest → Soonest
@@ -52,6 +51,8 @@ abbrev pub toldVerdict : Verdict → Told
 toldVerdict (Verdict.Pass frame channel) = record { number = 0; values = frame ∷ channel ∷ [] }
 toldVerdict (Verdict.Refused number) = record { number = number; values = [] }
 toldVerdict (Verdict.Fault number channel at frame) = record { number = number; values = channel ∷ at ∷ frame ∷ [] }
+
+-- Below: only private contracts and laws use these.
 
 -- a refusal is one of 1 to 15; a verdict's place is one of four channels, and an offset in its data or at its end (proofs/verdict/Place.antt)
 abbrev pub VerdictWithin : Verdict → Type 0

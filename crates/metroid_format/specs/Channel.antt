@@ -70,14 +70,6 @@ playedAt source at length =
     (playedBy (playedOf (source .lengths) (source .window) at length) (commandAt (source .kind) (source .bytes) at))
     (Played.Refused (lengthFault (source .lengths) (source .window) (getD (source .bytes) at 0)) at)
 
-abbrev pub toldPlayed : Played → Told
-toldPlayed Played.End = record { number = 0; values = [] }
-toldPlayed (Played.EndLoop next) = record { number = 0; values = next ∷ [] }
-toldPlayed (Played.BeginLoop counter next) = record { number = 0; values = counter ∷ next ∷ [] }
-toldPlayed (Played.Length b length next) = record { number = 0; values = b ∷ length .count ∷ next ∷ [] }
-toldPlayed (Played.Note b next) = record { number = 0; values = b ∷ next ∷ [] }
-toldPlayed (Played.Refused number at) = record { number = number; values = at ∷ [] }
-
 -- the cursor of a channel's start: all 0
 abbrev pub freshCursor : Cursor
 freshCursor = record { next = 0; «loop_start» = 0; counter = 0; length = record { count = 0 } }

@@ -94,12 +94,6 @@ unfoldable pub passFrom : Source → ℕ → Pass → Timeline
 passFrom source zero pass = record { frames = pass .frames; finish = Finish.Refused past-data (pass .next) }
 passFrom source (suc fuel) pass = passBy (passFrom source fuel) pass (passedOf source pass)
 
--- what keeps the sums of a pass over at most the limit's bytes small
-pub record Small (pass : Pass) : Type 0 where
-  pub lead : pass .lead ≤ data-limit
-  pub rest : pass .rest ≤ 255 * data-limit
-  pub frames : pass .frames ≤ frames-a-byte * data-limit
-
 abbrev pub freshPass : Pass
 freshPass = record { next = 0; length = record { count = 0 }; counter = 0; lead = 0; rest = 0; frames = 0 }
 
@@ -118,3 +112,11 @@ pub record Timed (source : Source) (timeline : Timeline) : Type 0 where
   pub answer : Answers toldTimeline timeline (timelineOf source)
   pub walk : Walk source freshCursor (timeline .frames) (timeline .finish)
   pub bound : timeline .frames ≤ frames-a-byte * length (source .bytes)
+
+-- Below: only private contracts and laws use these.
+
+-- what keeps the sums of a pass over at most the limit's bytes small
+pub record Small (pass : Pass) : Type 0 where
+  pub lead : pass .lead ≤ data-limit
+  pub rest : pass .rest ≤ 255 * data-limit
+  pub frames : pass .frames ≤ frames-a-byte * data-limit

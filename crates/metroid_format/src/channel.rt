@@ -13,7 +13,7 @@ ghost use mathlib.Core.Path.{_≡_};
 ghost use lib.ListN.{take};
 ghost use Rattle.engine_base.specs.Told.{Answers};
 ghost use Rattle.metroid_format.specs.Command.{data-limit};
-ghost use Rattle.metroid_format.specs.Channel.{sourceOf, lengthFault, counterOf, loopEnd, playedOf, playedAt, stepOf, readUntil, toldPlayed, toldUntil};
+ghost use Rattle.metroid_format.specs.Channel.{sourceOf, lengthFault, counterOf, loopEnd, playedOf, playedAt, stepOf, readUntil, toldUntil};
 
 // More commands than reading until a note can take.
 const FUEL: u32 = (DATA_LIMIT / 2 * 257 + 2) as u32;
@@ -123,8 +123,8 @@ pub(crate) fn played_at(
     at: usize,
     length: Frames,
 ) -> Played
-    ensures { λ r. ⌜ Answers toldPlayed r
-        (playedAt (sourceOf kind (now (bytes .entry)) (now (lengths .entry)) window) at length) ⌝ }
+    ensures { λ r. ⌜ r ≡
+        playedAt (sourceOf kind (now (bytes .entry)) (now (lengths .entry)) window) at length ⌝ }
 {
     let fault = length_fault(lengths, window, bytes::byte(bytes, at));
     if fault != 0 {

@@ -187,6 +187,8 @@ toldFramed f = record {
 abbrev pub toldStarted : Started → Told
 toldStarted s = record { number = s .number; values = [] }
 
+-- Below: only private contracts and laws use these.
+
 -- a refusal that names no place: 1 to 9, and 16
 pub data Unplaced : ℕ → Type 0 where
   of-track : {number : ℕ} → Unopened number → Unplaced number

@@ -10,4 +10,4 @@ pass-on-spec =
     (tie.spec
     (λ c κs. search needs)
     (λ c κs. search needs)
-    (λ c. rw (← (c .before .played-at .ensures .same)) (c .passed-by .ensures)))
+    (λ c. rw (← (c .before .played-at .ensures)) (c .passed-by .ensures)))
