@@ -55,7 +55,8 @@ static void compare_reading(int noise, const uint8_t *bytes, size_t size, size_t
     size_t count, offset;
     fill_pattern(found, sizeof found);
     fill_pattern(wanted, sizeof wanted);
-    uint32_t wanted_number = ref_read_words(noise ? REF_NOISE : REF_MELODIC, bytes, size, wanted, room, &count, &offset);
+    ref_kind kind = noise ? REF_NOISE : REF_MELODIC;
+    uint32_t wanted_number = ref_read_words(kind, bytes, size, wanted, room, &count, &offset);
     if (wanted_number != HEM_NO_ROOM)
         want_told(&told, wanted_number == HEM_OK ? count : offset);
     uint32_t number = hem_read_words(any_number_of(noise), bytes, size, found, room, told.found, told.room);
