@@ -23,12 +23,13 @@ extern "C" {
      its type and is not NULL, even where the length is 0.
    - What is written (record, verdict, answer, told, the output of the words calls) overlaps nothing else that is lent
      in the same call: not the bank, not another buffer.
-   - Nobody else reads or writes the record and the buffers, or writes the bank, during a call. Any number of calls with
-     records and buffers of their own may run at the same time on one bank.
+   - During a call nobody else reads or writes what the call writes, or writes what it reads (the bank, the input of the
+     words calls). Any number of calls with records and buffers of their own may run at the same time on one bank.
    - For a verdict of hem_check to hold of playing: bank bytes and all arguments from bank to default2 are the same in
      the check, in hem_start and in every hem_frame, and only hem_start and hem_frame write the record.
 
-   Nothing else is asked. Numbers of any size are tested and never cut to a smaller one. */
+   Nothing else is asked. Every value of a size_t or uint32_t argument is tested, and none is cut to a smaller one. But
+   default1 and default2 are bytes: C itself cuts a larger number to its low 8 bits, and no call can see that. */
 
 /* The bank and the places in it
 
@@ -40,7 +41,7 @@ extern "C" {
      header_block         address that these bytes are added to
      note_lengths         address of 40 bytes: lengths in frames
      key_periods          address of 64 words, high byte first: periods of the keys
-     noise_presets        address of 13 bytes: the presets, from offset 1
+     noise_presets        address of 13 bytes: from offset 1 the rest and three presets, three bytes each
      envelope_addresses   address of 5 words, low byte first: where the envelopes stand
      track_count          how many tracks the bank has, 1 to 255
      track                the track's number, from 0
@@ -87,7 +88,7 @@ typedef enum {
     HEM_LENGTH_OUTSIDE = 12,     /* a set-length command picks an entry outside the table of 40 */
     HEM_LENGTH_ZERO = 13,        /* a set-length command picks a length of 0 frames */
     HEM_NO_LENGTH_YET = 14,      /* a note or rest before any set-length command */
-    HEM_PAST_DATA = 15,          /* the data runs out before its end command */
+    HEM_PAST_DATA = 15,          /* a byte is needed past the channel's data */
     HEM_BAD_RECORD = 16,         /* hem_frame: the record given cannot be played on from (see hem_player) */
     HEM_BAD_WORD = 17,           /* hem_write_words: a word that is no command, or no end or a second one */
     HEM_NO_ROOM = 18             /* the words calls: the buffer is too small, or more than 256 bytes to write */
@@ -95,10 +96,10 @@ typedef enum {
 
 /* The player's record
 
-   34 bytes that hem_start fills and hem_frame steps. You may keep it, copy it and save it. hem_frame refuses one whose
-   offsets are above 256, or that has frames left above 0 with a length below them or with a sounding byte that is no
-   key, rest or preset, in a channel that the track uses; from any other record it plays on. The byte between stopped
-   and channels has no meaning. */
+   34 bytes that hem_start fills and hem_frame steps. You may keep it, copy it and save it. hem_frame refuses one that,
+   in a channel that the track uses, has an offset above 256, or frames left above 0 with a length below them or with a
+   sounding byte that is no key, rest or preset of that channel; from any other record it plays on. The byte between
+   stopped and channels has no meaning. */
 typedef struct {
     uint16_t next;       /* offset of the next command in the channel's data */
     uint16_t loop_start; /* offset after the last begin-loop command */

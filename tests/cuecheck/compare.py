@@ -2,10 +2,13 @@
 """cuecheck against the independent program, which runs every frame: both must print the same.
 
     make -C tests/reference && rt check cuecheck && tests/cuecheck/compare.py [BANKS] [SEED]
+
+Fails too if one of the lines that a bank or another input can give did not come.
 """
 import collections
 import os
 import random
+import re
 import subprocess
 import sys
 import tempfile
@@ -19,8 +22,10 @@ START, END = 0x8000, 0xC000
 OFFSETS, BLOCK, LENGTHS, PERIODS, PRESETS, ENVELOPES = 0xBBFA, 0xBD31, 0xBEF7, 0xBE77, 0xB200, 0xBCB0
 TRACKS, HEADER_SIZE = 12, 13
 NOISE = 3
-# what a bank at the published places can show: 1 to 4 say something of the input or the places
-NUMBERS = range(5, 16)
+WRONG_SIZES = (0, 1, BANK_SIZE - 1, BANK_SIZE + 1, 2 * BANK_SIZE, 100000)
+# what a track's line says after its number; a bank at the published places can't show 2 to 4
+LINE = re.compile(r"(pass) \d+ [0-3]|(refuse [5-9])|(refuse 1[0-5]) [0-3] \d+ \d+")
+MUST_COME = ["refuse 1", "pass"] + [f"refuse {number}" for number in range(5, 16)]
 
 
 def note(rnd, channel, after_length):
@@ -154,31 +159,36 @@ def same(name, data):
     return proved.decode()
 
 
+def told_of_bank(name, bank):
+    """What is said of each track: pass, or refuse and the number."""
+    lines = same(name, bank).splitlines()
+    numbered = [line.split(" ", 1) for line in lines]
+    matches = [LINE.fullmatch(words[-1]) for words in numbered]
+    if [words[0] for words in numbered] != [str(n) for n in range(TRACKS)] or None in matches:
+        sys.exit(f"{name}: not a line a track\n" + "\n".join(lines))
+    return [match[match.lastindex] for match in matches]
+
+
 def main():
     count = int(sys.argv[1]) if len(sys.argv) > 1 else 2100
-    seed = int(sys.argv[2]) if len(sys.argv) > 2 else 1
-    rnd = random.Random(seed)
-    shown = collections.Counter()
-    longest = 0
-    for size in (0, 1, BANK_SIZE - 1, BANK_SIZE + 1, 2 * BANK_SIZE, 100000):
+    rnd = random.Random(int(sys.argv[2]) if len(sys.argv) > 2 else 1)
+    for program in (PROVED, INDEPENDENT):
+        if not os.access(program, os.X_OK):
+            sys.exit(f"{program} is not built")
+    came = collections.Counter()
+    for size in WRONG_SIZES:
         for data in (bytes(size), rnd.randbytes(size)):
             if same(f"{size} bytes", data) != "refuse 1\n":
                 sys.exit(f"{size} bytes are taken")
+            came["refuse 1"] += 1
     kinds = ("legal", "damaged", "near the end")
     for i in range(count):
-        text = same(f"bank {i}", bytes(Bank(rnd, kinds[i % 3]).bytes))
-        lines = [line.split() for line in text.splitlines()]
-        if [line[0] for line in lines] != [str(n) for n in range(TRACKS)]:
-            sys.exit(f"bank {i}: not a line a track\n{text}")
-        for line in lines:
-            shown[" ".join(line[1:2] if line[1] == "pass" else line[1:3])] += 1
-            if len(line) > 3:
-                longest = max(longest, int(line[2] if line[1] == "pass" else line[5]))
-    missing = [n for n in NUMBERS if not shown[f"refuse {n}"]]
+        came.update(told_of_bank(f"bank {i}", bytes(Bank(rnd, kinds[i % 3]).bytes)))
+    print(", ".join(f"{told}: {came[told]}" for told in MUST_COME))
+    missing = [told for told in MUST_COME if not came[told]]
     if missing:
-        sys.exit(f"no bank shows {missing}")
-    print(f"{count} banks, {count * TRACKS} tracks: the same; latest frame {longest}")
-    print(", ".join(f"{name}: {n}" for name, n in sorted(shown.items(), key=lambda p: (len(p[0]), p[0]))))
+        sys.exit(f"no input shows {missing}")
+    print(f"{count} banks of {TRACKS} tracks, {2 * len(WRONG_SIZES)} other inputs: the same")
 
 
 main()

@@ -3,21 +3,34 @@
    host_test [ROUNDS [SEED]] */
 #include "host_test.h"
 
-#include <inttypes.h>
 #include <stdlib.h>
 #include <string.h>
 
 enum { DEFAULT_ROUNDS = 90000, MOST_MESSAGES = 20 };
 
 #ifdef WITHOUT_WORDS
-enum { LAST_NUMBER = HEM_BAD_RECORD };
+static const library_call last_call = FRAME;
 #else
-enum { LAST_NUMBER = HEM_NO_ROOM };
+static const library_call last_call = WRITE_WORDS;
 #endif
 
-static const char *part;
-static unsigned long round_now, expected, failed;
-static unsigned long hits[HEM_NO_ROOM + 1];
+/* Numbers as bits. */
+#define ONE(number) (1u << (number))
+#define FROM_TO(first, last) (2 * ONE(last) - ONE(first))
+
+/* What each call can return. */
+static const struct { const char *name; uint32_t numbers; } calls[CALLS] = {
+    [CHECK] = { "check", FROM_TO(HEM_OK, HEM_PAST_DATA) },
+    [START] = { "start", FROM_TO(HEM_OK, HEM_NO_CHANNEL) },
+    [FRAME] = { "frame", FROM_TO(HEM_OK, HEM_BAD_RECORD) },
+    [READ_WORDS] = { "read words", ONE(HEM_OK) | FROM_TO(HEM_NO_COMMAND, HEM_NO_SUCH_KEY) | ONE(HEM_PAST_DATA)
+                                       | ONE(HEM_NO_ROOM) },
+    [WRITE_WORDS] = { "write words", ONE(HEM_OK) | FROM_TO(HEM_BAD_WORD, HEM_NO_ROOM) },
+};
+
+static const char *part = "";
+static unsigned long part_began, part_least, round_now, expected, failed;
+static unsigned long hits[CALLS][HEM_NO_ROOM + 1];
 
 void expect(int holds, const char *text, const char *file, int line)
 {
@@ -29,9 +42,12 @@ void expect(int holds, const char *text, const char *file, int line)
         fprintf(stderr, "%s:%d: %s, round %lu: not so: %s\n", file, line, part, round_now, text);
 }
 
-void begin_part(const char *name)
+void begin_part(const char *name, unsigned long least)
 {
+    EXPECT(expected - part_began >= part_least);
     part = name;
+    part_began = expected;
+    part_least = least;
     round_now = 0;
 }
 
@@ -40,11 +56,11 @@ void begin_round(unsigned long round)
     round_now = round;
 }
 
-void count_number(uint32_t number)
+void count_number(library_call call, uint32_t number)
 {
     EXPECT(number <= HEM_NO_ROOM);
     if (number <= HEM_NO_ROOM)
-        hits[number]++;
+        hits[call][number]++;
 }
 
 void fill_pattern(void *buffer, size_t size)
@@ -80,23 +96,34 @@ int same_record(const hem_player *a, const ref_player *b)
     return same;
 }
 
-/* Every number of refusal must have been seen. */
-static void report_numbers(void)
+static void report_numbers(library_call call)
 {
-    begin_part("numbers");
-    printf("numbers returned:");
-    for (unsigned long number = 0; number <= LAST_NUMBER; number++) {
-        printf(" %lu:%lu", number, hits[number]);
+    begin_part(calls[call].name, 0);
+    printf("numbers returned by %s:", calls[call].name);
+    for (unsigned long number = 0; number <= HEM_NO_ROOM; number++) {
         begin_round(number);
-        EXPECT(hits[number] > 0);
+        EXPECT((hits[call][number] > 0) == ((calls[call].numbers & ONE(number)) != 0));
+        if (hits[call][number] > 0)
+            printf(" %lu:%lu", number, hits[call][number]);
     }
     printf("\n");
 }
 
+static unsigned long above_0(const char *text)
+{
+    char *end;
+    unsigned long number = strtoul(text, &end, 10);
+    if (number == 0 || *end != '\0') {
+        fprintf(stderr, "host_test: %s is no number above 0\n", text);
+        exit(2);
+    }
+    return number;
+}
+
 int main(int argc, char **argv)
 {
-    unsigned long rounds = argc > 1 ? strtoul(argv[1], NULL, 10) : DEFAULT_ROUNDS;
-    uint64_t seed = argc > 2 ? strtoull(argv[2], NULL, 10) : 1;
+    unsigned long rounds = argc > 1 ? above_0(argv[1]) : DEFAULT_ROUNDS;
+    unsigned long seed = argc > 2 ? above_0(argv[2]) : 1;
     seed_random(seed);
     test_layout();
     test_samples();
@@ -105,7 +132,8 @@ int main(int argc, char **argv)
 #ifndef WITHOUT_WORDS
     test_words(rounds);
 #endif
-    report_numbers();
-    printf("host test: %lu rounds, seed %" PRIu64 ": %lu expectations, %lu failed\n", rounds, seed, expected, failed);
+    for (library_call call = CHECK; call <= last_call; call++)
+        report_numbers(call);
+    printf("host test: %lu rounds, seed %lu: %lu expectations, %lu failed\n", rounds, seed, expected, failed);
     return failed == 0 ? EXIT_SUCCESS : EXIT_FAILURE;
 }

@@ -8,12 +8,13 @@
 #define EXPECT(holds) expect((holds) != 0, #holds, __FILE__, __LINE__)
 void expect(int holds, const char *text, const char *file, int line);
 
-/* The part and round that runs now, for the messages. */
-void begin_part(const char *name);
+/* The part and round that runs now, for the messages. A part that makes fewer expectations than `least` fails. */
+void begin_part(const char *name, unsigned long least);
 void begin_round(unsigned long round);
 
-/* Counts a number that the library returned. */
-void count_number(uint32_t number);
+/* Counts a number that one of the library's calls returned. Each that it can return must come, and no other. */
+typedef enum { CHECK, START, FRAME, READ_WORDS, WRITE_WORDS, CALLS } library_call;
+void count_number(library_call call, uint32_t number);
 
 /* Lent buffers are longer than what is lent; what is not to be written keeps its bytes. */
 void fill_pattern(void *buffer, size_t size);

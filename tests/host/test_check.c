@@ -28,11 +28,14 @@ static void compare_check(const setup *s)
         fill_pattern(found, sizeof found);
         expected_verdict(&v, room, wanted);
         uint32_t number = hem_check(SETUP(s), found, room);
-        count_number(number);
+        count_number(CHECK, number);
         EXPECT(number == v.number);
         EXPECT(memcmp(found, wanted, sizeof found) == 0);
     }
 }
+
+/* Expectations of one comparison: three for each room. */
+#define LEAST_EACH (3 * (ROOM + 1))
 
 /* A track of one channel: its verdict is where that channel stops, and after how many frames. */
 static void round_of_one_channel(int channel)
@@ -53,14 +56,14 @@ static void round_of_one_channel(int channel)
 void test_check(unsigned long rounds)
 {
     uint8_t *memory = fenced_memory();
-    begin_part("check");
+    begin_part("check", rounds * LEAST_EACH);
     for (unsigned long i = 0; i < rounds; i++) {
         setup s;
         begin_round(i);
         random_setup(&s, memory);
         compare_check(&s);
     }
-    begin_part("check of one channel");
+    begin_part("check of one channel", rounds * HEM_CHANNELS * LEAST_EACH);
     for (unsigned long i = 0; i < rounds; i++) {
         begin_round(i);
         for (int channel = HEM_SQUARE_1; channel < HEM_CHANNELS; channel++)

@@ -55,7 +55,7 @@ void test_layout(void)
 {
     static uint8_t bank[HEM_BANK_SIZE];
     setup s;
-    begin_part("layout");
+    begin_part("layout", 20);
     plain_setup(&s, bank);
     use_channel(&s, HEM_SQUARE_1, BYTES(0xC2, 0xB1, 0x2A, 0xFF, 0x00));
     use_channel(&s, HEM_TRIANGLE, BYTES(0xB0, 0x30, 0x00));

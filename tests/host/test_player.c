@@ -3,10 +3,11 @@
 
 #include <string.h>
 
-enum { LENT = 32, MOST_ROOM = 30, FRAMES = 60, FORESEEN_LIMIT = 400 };
+/* LEAST_EACH: expectations of a round, three of start, four of a frame, one of what is foreseen, one of the bank. */
+enum { LENT = 32, MOST_ROOM = 30, FRAMES = 60, FORESEEN_LIMIT = 400, LEAST_EACH = 9 };
 
-/* How often each kind of answer, and each state of a channel, was seen. */
-static unsigned long kinds[HEM_REFUSED + 1], states[HEM_NOTE + 1];
+/* How often each kind of answer, each state of a channel, and an end and a fault that the check foresaw were seen. */
+static unsigned long kinds[HEM_REFUSED + 1], states[HEM_NOTE + 1], ends, faults;
 
 static void count_answer(const uint32_t *answer)
 {
@@ -15,13 +16,15 @@ static void count_answer(const uint32_t *answer)
         states[answer[HEM_ANSWER_PART(i) + HEM_PART_STATE]]++;
 }
 
-static void expect_all_seen(void)
+static void expect_all_seen(unsigned long rounds)
 {
     printf("answers: events %lu, end %lu, stopped %lu, refused %lu; rests %lu, notes %lu\n", kinds[HEM_EVENTS],
            kinds[HEM_END], kinds[HEM_STOPPED], kinds[HEM_REFUSED], states[HEM_REST], states[HEM_NOTE]);
     for (int i = HEM_EVENTS; i <= HEM_REFUSED; i++)
         EXPECT(kinds[i] > 0);
     EXPECT(states[HEM_REST] > 0 && states[HEM_NOTE] > 0);
+    printf("foreseen and met: ends %lu, faults %lu\n", ends, faults);
+    EXPECT(ends > rounds / 10 && faults > rounds / 10);
 }
 
 static void compare_start(const setup *s, hem_player *player)
@@ -29,7 +32,7 @@ static void compare_start(const setup *s, hem_player *player)
     ref_player wanted;
     fill_pattern(player, sizeof *player);
     uint32_t number = hem_start(player, SETUP(s));
-    count_number(number);
+    count_number(START, number);
     EXPECT(number == ref_start(&wanted, s->bank, s->bank_len, &s->places, s->track));
     EXPECT(same_record(player, &wanted));
 }
@@ -47,7 +50,7 @@ static uint32_t compare_frame(const setup *s, hem_player *player, size_t room)
     memcpy(wanted, told, written * sizeof told[0]);
     count_answer(told);
     uint32_t number = hem_frame(player, SETUP(s), found, room);
-    count_number(number);
+    count_number(FRAME, number);
     EXPECT(number == wanted_number);
     EXPECT(memcmp(found, wanted, sizeof found) == 0);
     EXPECT(same_record(player, &next));
@@ -101,9 +104,11 @@ static void compare_foreseen(const setup *s)
     }
     EXPECT(hem_frame(&player, SETUP(s), answer, HEM_ANSWER_WORDS) == number);
     if (number == HEM_OK) {
+        ends++;
         EXPECT(answer[HEM_ANSWER_KIND] == HEM_END);
         EXPECT(met_by(answer + HEM_ANSWER_COUNTS, verdict[HEM_PASS_CHANNEL]));
     } else {
+        faults++;
         EXPECT(answer[HEM_ANSWER_KIND] == HEM_REFUSED);
         EXPECT(answer[HEM_ANSWER_CHANNEL] == verdict[HEM_FAULT_CHANNEL]);
         EXPECT(answer[HEM_ANSWER_OFFSET] == verdict[HEM_FAULT_OFFSET]);
@@ -114,7 +119,7 @@ void test_player(unsigned long rounds)
 {
     static uint8_t before[LONGEST_BANK];
     uint8_t *memory = fenced_memory();
-    begin_part("player");
+    begin_part("player", rounds * LEAST_EACH);
     for (unsigned long i = 0; i < rounds; i++) {
         setup s;
         begin_round(i);
@@ -124,5 +129,5 @@ void test_player(unsigned long rounds)
         compare_foreseen(&s);
         EXPECT(memcmp(before, memory, sizeof before) == 0);
     }
-    expect_all_seen();
+    expect_all_seen(rounds);
 }

@@ -117,7 +117,7 @@ static void test_events(void)
 
 void test_samples(void)
 {
-    begin_part("samples");
+    begin_part("samples", 65);
     test_triangles();
     test_order_of_channels();
     test_edges();

@@ -3,7 +3,11 @@
 
 #include <string.h>
 
-enum { LONGEST = 300, LENT = LONGEST + 4, TOLD = 3 };
+/* LEAST_EACH: expectations of one comparison. */
+enum { LONGEST = 300, LENT = LONGEST + 4, TOLD = 3, LEAST_EACH = 4, EVERY_WORD = 0x10000 };
+
+/* Round trips that were made: not all data reads, and not every list writes. */
+static unsigned long data_trips, list_trips;
 
 /* Room for all, or any at or below what a list of this size may need. */
 static size_t random_room(size_t size)
@@ -31,9 +35,9 @@ static void want_told(told_words *told, size_t value)
         told->wanted[0] = (uint32_t)value;
 }
 
-static void compare_answer(uint32_t number, uint32_t wanted_number, const told_words *told)
+static void compare_answer(library_call call, uint32_t number, uint32_t wanted_number, const told_words *told)
 {
-    count_number(number);
+    count_number(call, number);
     EXPECT(number == wanted_number);
     EXPECT(memcmp(told->found, told->wanted, sizeof told->found) == 0);
 }
@@ -51,11 +55,12 @@ static void compare_reading(int noise, const uint8_t *bytes, size_t size, size_t
     size_t count, offset;
     fill_pattern(found, sizeof found);
     fill_pattern(wanted, sizeof wanted);
-    uint32_t wanted_number = ref_read_words(noise ? REF_NOISE : REF_MELODIC, bytes, size, wanted, room, &count, &offset);
+    ref_kind kind = noise ? REF_NOISE : REF_MELODIC;
+    uint32_t wanted_number = ref_read_words(kind, bytes, size, wanted, room, &count, &offset);
     if (wanted_number != HEM_NO_ROOM)
         want_told(&told, wanted_number == HEM_OK ? count : offset);
-    compare_answer(hem_read_words(any_number_of(noise), bytes, size, found, room, told.found, told.room), wanted_number,
-                   &told);
+    uint32_t number = hem_read_words(any_number_of(noise), bytes, size, found, room, told.found, told.room);
+    compare_answer(READ_WORDS, number, wanted_number, &told);
     EXPECT(memcmp(found, wanted, sizeof found) == 0);
 }
 
@@ -69,15 +74,15 @@ static void compare_writing(int noise, const uint16_t *words, size_t size, size_
     uint32_t wanted_number = ref_write_words(noise ? REF_NOISE : REF_MELODIC, words, size, wanted, room, &count);
     if (wanted_number == HEM_OK)
         want_told(&told, count);
-    compare_answer(hem_write_words(any_number_of(noise), words, size, found, room, told.found, told.room), wanted_number,
-                   &told);
+    uint32_t number = hem_write_words(any_number_of(noise), words, size, found, room, told.found, told.room);
+    compare_answer(WRITE_WORDS, number, wanted_number, &told);
     EXPECT(memcmp(found, wanted, sizeof found) == 0);
 }
 
 /* Every word alone and before an end, and all data of one or two bytes, alone and before an end. */
 static void all_of_two_bytes(int noise)
 {
-    for (uint32_t i = 0; i < 0x10000; i++) {
+    for (uint32_t i = 0; i < EVERY_WORD; i++) {
         const uint16_t words[] = { (uint16_t)i, 0 };
         const uint8_t bytes[] = { (uint8_t)i, (uint8_t)(i >> 8), 0x00 };
         begin_round(i);
@@ -102,9 +107,8 @@ static void round_of_reading(int noise)
 }
 
 /* Commands without an end, then one; sometimes none, a second one, or a word that is none. */
-static void round_of_writing(int noise)
+static size_t random_list(int noise, uint16_t words[LONGEST])
 {
-    uint16_t words[LENT];
     size_t size = below(one_in(3) ? LONGEST + 1 : 30);
     int may_be_wrong = one_in(2);
     for (size_t i = 0; i < size; i++) {
@@ -114,10 +118,17 @@ static void round_of_writing(int noise)
         if (may_be_wrong && one_in(8))
             words[i] = random_command(noise);
         if (may_be_wrong && one_in(60))
-            words[i] = (uint16_t)below(0x10000);
+            words[i] = (uint16_t)below(EVERY_WORD);
     }
     if (size > 0 && !one_in(10))
         words[size - 1] = 0;
+    return size;
+}
+
+static void round_of_writing(int noise)
+{
+    uint16_t words[LONGEST];
+    size_t size = random_list(noise, words);
     compare_writing(noise, words, size, random_room(size));
 }
 
@@ -137,8 +148,8 @@ static void round_at_the_limit(int noise)
     compare_reading(noise, bytes, size, random_room(size));
 }
 
-/* What was read, written again, is the same data. */
-static void round_trip(int noise)
+/* Data that reads, written again, is the same bytes. */
+static void read_then_write(int noise)
 {
     uint8_t bytes[HEM_DATA_LIMIT], back[HEM_DATA_LIMIT];
     uint16_t words[HEM_DATA_LIMIT];
@@ -146,23 +157,43 @@ static void round_trip(int noise)
     random_data(noise, bytes, sizeof bytes);
     if (hem_read_words((uint32_t)noise, bytes, sizeof bytes, words, HEM_DATA_LIMIT, &count, 1) != HEM_OK)
         return;
+    data_trips++;
     EXPECT(hem_write_words((uint32_t)noise, words, count, back, sizeof back, &written, 1) == HEM_OK);
     EXPECT(written >= count && written <= sizeof back && memcmp(bytes, back, written) == 0);
 }
 
+/* A list that writes, read again, is the same words, whatever stands behind its bytes. */
+static void write_then_read(int noise)
+{
+    uint16_t words[LONGEST], back[LONGEST];
+    uint8_t bytes[HEM_DATA_LIMIT];
+    uint32_t count = 0, written = 0;
+    size_t size = random_list(noise, words);
+    random_data(noise, bytes, sizeof bytes);
+    if (hem_write_words((uint32_t)noise, words, size, bytes, sizeof bytes, &written, 1) != HEM_OK)
+        return;
+    list_trips++;
+    EXPECT(written >= size && written <= sizeof bytes);
+    EXPECT(hem_read_words((uint32_t)noise, bytes, sizeof bytes, back, LONGEST, &count, 1) == HEM_OK);
+    EXPECT(count == size && memcmp(words, back, size * sizeof words[0]) == 0);
+}
+
 void test_words(unsigned long rounds)
 {
-    begin_part("all words, melodic");
+    begin_part("all words, melodic", 4 * EVERY_WORD * LEAST_EACH);
     all_of_two_bytes(0);
-    begin_part("all words, noise");
+    begin_part("all words, noise", 4 * EVERY_WORD * LEAST_EACH);
     all_of_two_bytes(1);
-    begin_part("words");
+    begin_part("words", 5 * rounds * LEAST_EACH);
     for (unsigned long i = 0; i < rounds; i++) {
         begin_round(i);
         int noise = (int)below(2);
         round_of_reading(noise);
         round_of_writing(noise);
         round_at_the_limit(noise);
-        round_trip(noise);
+        read_then_write(noise);
+        write_then_read(noise);
     }
+    printf("round trips: data %lu, lists %lu\n", data_trips, list_trips);
+    EXPECT(data_trips > rounds / 4 && list_trips > rounds / 4);
 }

@@ -4,6 +4,9 @@
 #include <stdlib.h>
 #include <string.h>
 
+/* Fewer would say that some of the tests did not run. */
+#define LEAST_CHECKS 400000u
+
 static const char zero_bank_lines[] =
     "0 refuse 9\n1 refuse 9\n2 refuse 9\n3 refuse 9\n4 refuse 9\n5 refuse 9\n"
     "6 refuse 9\n7 refuse 9\n8 refuse 9\n9 refuse 9\n10 refuse 9\n11 refuse 9\n";
@@ -57,6 +60,7 @@ int main(void)
     test_cues();
     test_cue_lines();
     test_random();
+    CHECK(checks_run >= LEAST_CHECKS);
     printf("selftest: %u checks, %u failed\n", checks_run, checks_failed);
     return checks_failed == 0 ? 0 : 1;
 }

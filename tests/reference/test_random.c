@@ -104,8 +104,15 @@ static cart *random_cart(void)
     return c;
 }
 
-/* How often each verdict came, to see that the tracks are of many sorts. */
-static unsigned verdicts[REF_NO_ROOM + 1];
+/* How often each number and each kind of answer came, to see that the tracks and records are of many sorts. */
+static unsigned verdicts[REF_NO_ROOM + 1], answers[REF_REFUSED + 1];
+
+static void print_refusals(void)
+{
+    for (int number = 1; number <= REF_NO_ROOM; number++)
+        if (verdicts[number] != 0)
+            printf(", %u refuse %d", verdicts[number], number);
+}
 
 static void test_checks_agree(void)
 {
@@ -121,9 +128,7 @@ static void test_checks_agree(void)
         free(c);
     }
     printf("random tracks: %u pass", verdicts[0]);
-    for (int number = 1; number <= REF_NO_ROOM; number++)
-        if (verdicts[number] != 0)
-            printf(", %u refuse %d", verdicts[number], number);
+    print_refusals();
     printf("; longest %llu frames\n", (unsigned long long)longest);
     CHECK(verdicts[0] > 1000);
     for (int number = REF_NO_COMMAND; number <= REF_PAST_DATA; number++)
@@ -160,6 +165,7 @@ static void test_one_record(cart *c, const ref_player *given)
         for (int i = REF_ANSWER_PARTS; i < REF_ANSWER_WORDS; i++)
             CHECK(answer[i] == 0);
     verdicts[number]++;
+    answers[answer[0]]++;
 }
 
 /* Records as from a damaged save: what each outcome leaves behind. */
@@ -175,29 +181,64 @@ static void test_records(void)
         test_one_record(c, &p);
         free(c);
     }
-    printf("random records: %u without refusal, %u refuse 16\n", verdicts[0], verdicts[REF_BAD_RECORD]);
+    printf("random records: %u events, %u ends, %u stopped", answers[REF_EVENTS], answers[REF_END],
+           answers[REF_STOPPED]);
+    print_refusals();
+    printf("\n");
+    for (int kind = REF_EVENTS; kind <= REF_REFUSED; kind++)
+        CHECK(answers[kind] > 500);
+    for (int number = REF_NO_COMMAND; number <= REF_PAST_DATA; number++)
+        CHECK(verdicts[number] > 0);
+    CHECK(verdicts[REF_BAD_RECORD] > 1000);
 }
 
-/* What was read is written back as it was, up to and including the end. */
+/* Data that reads, written again, gives the same bytes up to and including its end. Whether it reads. */
+static unsigned read_then_write(ref_kind kind)
+{
+    uint8_t data[LONGEST_DATA + 1], back[LONGEST_DATA];
+    uint16_t words[LONGEST_DATA];
+    size_t n = 0, count, offset, written;
+    while (n < LONGEST_DATA)
+        n += random_command(kind, data + n);
+    if (ref_read_words(kind, data, LONGEST_DATA, words, LONGEST_DATA, &count, &offset) != 0)
+        return 0;
+    CHECK(ref_write_words(kind, words, count, back, LONGEST_DATA, &written) == 0);
+    CHECK(written >= count && memcmp(data, back, written) == 0 && back[written - 1] == 0);
+    CHECK(ref_write_words(kind, words, count, back, written - 1, &written) == REF_NO_ROOM);
+    return 1;
+}
+
+/* A list that writes, read again, gives the same words, whatever stands behind its bytes. Whether it writes. */
+static unsigned write_then_read(ref_kind kind)
+{
+    uint16_t words[LONGEST_DATA], back[LONGEST_DATA];
+    uint8_t data[2 * LONGEST_DATA];
+    size_t n = 1 + random_below(LONGEST_DATA), count, offset, written;
+    for (size_t i = 0; i < n - 1; i++) {
+        uint8_t command[2] = { 0, 0 };
+        random_command(kind, command);
+        words[i] = (uint16_t)(command[0] + 256 * command[1]);
+    }
+    words[n - 1] = 0;
+    memset(data, (int)random_below(256), sizeof data);
+    if (ref_write_words(kind, words, n, data, sizeof data, &written) != 0)
+        return 0;
+    CHECK(ref_read_words(kind, data, sizeof data, back, LONGEST_DATA, &count, &offset) == 0);
+    CHECK(count == n && memcmp(words, back, n * sizeof words[0]) == 0);
+    CHECK(ref_read_words(kind, data, written - 1, back, LONGEST_DATA, &count, &offset) == REF_PAST_DATA);
+    return 1;
+}
+
 static void test_lists(void)
 {
-    unsigned read = 0;
+    unsigned read = 0, wrote = 0;
     for (int i = 0; i < RANDOM_LISTS; i++) {
         ref_kind kind = random_below(2) == 0 ? REF_MELODIC : REF_NOISE;
-        uint8_t data[LONGEST_DATA + 2], back[LONGEST_DATA + 2];
-        uint16_t words[LONGEST_DATA];
-        size_t n = 0, count, offset, written;
-        while (n < LONGEST_DATA)
-            n += random_command(kind, data + n);
-        if (ref_read_words(kind, data, LONGEST_DATA, words, LONGEST_DATA, &count, &offset) != 0)
-            continue;
-        read++;
-        CHECK(ref_write_words(kind, words, count, back, LONGEST_DATA, &written) == 0);
-        CHECK(memcmp(data, back, written) == 0 && back[written - 1] == 0);
-        CHECK(ref_write_words(kind, words, count, back, written - 1, &written) == REF_NO_ROOM);
+        read += read_then_write(kind);
+        wrote += write_then_read(kind);
     }
-    printf("random lists: %u of %d read and written back\n", read, RANDOM_LISTS);
-    CHECK(read > 1000);
+    printf("random lists: of %d each, %u read and written back, %u written and read back\n", RANDOM_LISTS, read, wrote);
+    CHECK(read > RANDOM_LISTS / 4 && wrote > RANDOM_LISTS / 4);
 }
 
 void test_random(void)
