@@ -56,7 +56,3 @@ module _ (before : List ℕ) (at : ℕ) (values now : List ℕ) (i : ℕ) (f : F
 
   pub filled : length values ≤ i → now ≡ sets before at values
   filled h = rw (f .same, drop-of-length-le values {i = i} h)
-
-  -- no room is left
-  pub filling-full : length before ≤ at + i → now ≡ sets before at values
-  filling-full h = sets-out now (at + i) (drop i values) (omega (arith, f .size)) ∙ sym (f .same)

@@ -1,4 +1,5 @@
 pub mod Laws
 pub mod RoundTrip
 pub mod Within
+pub mod Owed
 pub mod Examples

@@ -151,9 +151,6 @@ blankTrack = record {
   voices = unusedVoice Melodic ∷ unusedVoice Melodic ∷ unusedVoice Melodic ∷ unusedVoice Melodic ∷ [];
 }
 
-abbrev pub refusedTrack : ℕ → Opened
-refusedTrack n = record { number = n; track = blankTrack }
-
 -- number 0 and the track, or the first number of 1 to 9 and a blank track
 abbrev pub opened : ℕ → Track → Opened
 opened n t = record { number = n; track = pick (eqb n 0) t blankTrack }
@@ -164,3 +161,8 @@ openTrack bank places track =
 
 abbrev pub toldOpened : Opened → Told
 toldOpened o = record { number = o .number; values = [] }
+
+-- Below: only private contracts and laws use these.
+
+abbrev pub refusedTrack : ℕ → Opened
+refusedTrack n = record { number = n; track = blankTrack }

@@ -3,13 +3,9 @@ use Prim.Native.Nat.{ℕ, _*_, _/_, _≤_}
 use mathlib.Core.List.{List, [], _∷_}
 use Rattle.metroid_format.specs.Command.{data-limit}
 
--- the pairs of bytes in a channel's data
-abbrev pub pairs : ℕ
-pairs = data-limit / 2
-
 -- 257 commands for two bytes: 32,896
 abbrev pub most-commands : ℕ
-most-commands = pairs * 257
+most-commands = data-limit / 2 * 257
 
 abbrev pub AtMost : ℕ → List ℕ → Type 0
 AtMost most [] = Unit {0}

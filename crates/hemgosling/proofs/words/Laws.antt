@@ -13,13 +13,13 @@ use Rattle.metroid_format.specs.declared.words.Writing.{Writing}
 use Rattle.metroid_format.proofs.words.Within.{read-within, wrote-within}
 use Rattle.hemgosling.specs.Tell.{Tells}
 use Rattle.hemgosling.specs.Words.{kindOf, ReadsInto, WritesInto}
-use Rattle.hemgosling.proofs.Sizes.{count-fits, offset-fits}
+use Rattle.hemgosling.proofs.Sizes.{count-fits}
 
 pub read-count : (r : Reading) (count : ℕ) → r ≡ Reading.Wrote count → ReadWithin data-limit r → Fits w32 count
 read-count r count e w = count-fits (subst (ReadWithin data-limit) e w)
 
 pub read-offset : (r : Reading) (number at : ℕ) → r ≡ Reading.Refused number at → ReadWithin data-limit r → Fits w32 at
-read-offset r number at e w = offset-fits (subst (ReadWithin data-limit) e w)
+read-offset r number at e w = count-fits (subst (ReadWithin data-limit) e w .1)
 
 pub wrote-count : (r : Writing) (count : ℕ) → r ≡ Writing.Wrote count → WroteWithin data-limit r → Fits w32 count
 wrote-count r count e w = count-fits (subst (WroteWithin data-limit) e w)
@@ -31,7 +31,7 @@ module _ (noise : ℕ) (kind : Kind) (k : kind ≡ kindOf noise) where
 
     pub reads-into : (before after : List ℕ) (number : ℕ) → Tells (toldReading r) before number after
         → ReadsInto (kindOf noise) bytes words before number words′ after
-    reads-into before after number t = rw (← k) (record { told = rw (a .answered .same) at t; buffer = a .buffer })
+    reads-into before after number t = rw (← k) (record { told = rw (a .answered .same) at t; buffer = a .buffer; back = rw (a .answered .same) at (a .back) })
 
   module _ (words bytes bytes′ : List ℕ) (r : Writing) (a : Writes data-limit kind words bytes r bytes′) where
     pub writing-within : WroteWithin data-limit r
@@ -39,4 +39,4 @@ module _ (noise : ℕ) (kind : Kind) (k : kind ≡ kindOf noise) where
 
     pub writes-into : (before after : List ℕ) (number : ℕ) → Tells (toldWriting r) before number after
         → WritesInto (kindOf noise) words bytes before number bytes′ after
-    writes-into before after number t = rw (← k) (record { told = rw (a .answered .same) at t; buffer = a .buffer })
+    writes-into before after number t = rw (← k) (record { told = rw (a .answered .same) at t; buffer = a .buffer; back = rw (a .answered .same) at (a .back) })

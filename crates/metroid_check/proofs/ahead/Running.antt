@@ -1,5 +1,5 @@
 -- A used channel on its way to its own end or fault, and what its turn in a frame does.
-use Prim.Native.Nat.{ℕ, suc, _+_, _-_, _*_, _≤_, _<_}
+use Prim.Native.Nat.{ℕ, suc, _+_, _-_, _/_, _≤_, _<_}
 use mathlib.Core.Bool.{Bool, true, false}
 use mathlib.Core.List.{List}
 use mathlib.Core.Path.{_≡_, refl, sym, _∙_}
@@ -21,7 +21,6 @@ use Rattle.metroid_format.specs.declared.channel.Cursor.{Cursor}
 use Rattle.metroid_format.specs.declared.channel.Stop.{Stop}
 use Rattle.metroid_format.specs.declared.channel.Until.{Until}
 use Rattle.metroid_player.specs.Record.{cursorOf, soundFits, channelFits}
-use Rattle.metroid_player.specs.Counts.{pairs}
 use Rattle.metroid_player.specs.Frame.{begun, oneOff, turnBy, turnOf}
 use Rattle.metroid_player.specs.declared.record.Channel.{Channel}
 use Rattle.metroid_player.specs.declared.frame.Turned.{Turned}
@@ -115,7 +114,7 @@ module _ (bank : List ℕ) (track : Track) where
         let none : channel .left .count ≡ 0 = eqb-true _ _ z in
         let all : n ≡ r .walking = omega (arith, r .frames) in
         let until = readUntil data-limit source (cursorOf channel) in
-        let read = reads source pairs 0 (source-within bank track voice) (cursorOf channel) (omega arith) (r .looped) in
+        let read = reads source (data-limit / 2) 0 (source-within bank track voice) (cursorOf channel) (omega arith) (r .looped) in
         rw all
         (turn-by channel (until .cursor) (until .count) (until .stop) (stop-holds source read)
         (until-within source data-limit (source-within bank track voice) (cursorOf channel) (r .within) .cursor)

@@ -4,7 +4,7 @@ use mathlib.Core.List.{List, [], _∷_, map}
 use mathlib.Core.Path.{_≡_, refl}
 use Rattle.metroid_format.specs.Command.{isKey, isPreset, noteAfter, commandOf, commandAt}
 use Rattle.metroid_format.specs.Command.{data-limit}
-use Rattle.metroid_format.specs.Words.{straightFrom, readWords, wordsLeft, toldReading, commandOfWord, encoded, writeWords, bytesLeft, toldWriting}
+use Rattle.metroid_format.specs.Words.{straightFrom, readWords, wordsLeft, toldReading, commandOfWord, encoded, writeWords, bytesLeft, toldWriting, upToEnd}
 use Rattle.metroid_format.specs.declared.command.Kind.{Kind}
 use Rattle.metroid_format.specs.declared.command.Kind.the-variants.{Melodic, Noise}
 use lib.ListN.{length}
@@ -70,3 +70,8 @@ readings-right = refl
 writings-right : map written writings ≡ map told writings
 unfolding writings isKey isPreset noteAfter commandOf commandAt commandOfWord encoded writeWords bytesLeft
 writings-right = refl
+
+-- directly after BL, 00 is no end
+up-to-end : upToEnd Melodic (0xb0 ∷ 0x00 ∷ 0x2a ∷ 0x00 ∷ 0x11 ∷ []) ≡ 0xb0 ∷ 0x00 ∷ 0x2a ∷ 0x00 ∷ []
+unfolding isKey isPreset noteAfter commandOf commandAt straightFrom upToEnd
+up-to-end = refl

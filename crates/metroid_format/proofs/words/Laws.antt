@@ -3,29 +3,25 @@ use Prim.Native.Nat.{ℕ, zero, suc, _+_, _-_, _*_, _/_, _%_, _^_, _≤_, _<_}
 use mathlib.Core.Bool.{Bool, true, false}
 use mathlib.Core.List.{List, [], _∷_, _++_, append-nil}
 use mathlib.Core.Path.{_≡_, refl, sym, subst, _∙_}
-use native.Mathlib.Nat.{sub-zero, zero-add}
+use native.Mathlib.Nat.{sub-zero}
 use native.Mathlib.Numerals.{add-one}
 use native.Mathlib.Omega.{arith}
-use borrow.Author.Tests.{eq-eqb, ne-eqb, eqb-true, le-leb, lt-leb}
+use borrow.Author.Tests.{eq-eqb, ne-eqb, eqb-true}
 use mir.Syntax.{w64}
 use mir.Val.{Fits}
-use lib.Dec.{leb, eqb, eqb·zero-suc, eqb·suc-suc}
+use lib.Dec.{eqb, eqb·zero-suc, eqb·suc-zero, eqb·suc-suc}
 use lib.ListN.{length, getD, set, take, drop, drop-of-length-le}
-use lib.Seq.{sets, sets-eq, take-all, drop-cons, length-take-le}
+use lib.Seq.{sets, take-all, drop-cons, length-take-le}
 use Rattle.engine_base.specs.Refusal.{past-data, invalid-word}
 use Rattle.metroid_format.specs.Command.{commandAt, wordOf, isEnd}
-use Rattle.metroid_format.specs.Words.{pair, commandOfWord, Straight, straightFrom, straightBy, straight, afterCommand, Decodes, Encoded, encoded, encodedBy, beforeRest, invalid, isEmpty, Encodes, finished, leftBy, readWords, wordsLeft, toldReading, Reads, putBy, writeWords, bytesLeft, toldWriting, Writes}
+use Rattle.metroid_format.specs.Words.{pair, commandOfWord, Straight, straightFrom, straightBy, straight, afterCommand, Decodes, Encoded, encoded, encodedBy, beforeRest, Encodes}
 use Rattle.metroid_format.specs.declared.command.Kind.{Kind}
 use Rattle.metroid_format.specs.declared.command.Command.{Command}
 use Rattle.metroid_format.specs.declared.command.Decoded.{Decoded}
 use Rattle.metroid_format.specs.declared.command.Decoded.the-variants.{Found, Refused}
 use Rattle.metroid_format.specs.declared.command.Finish.{Finish}
 use Rattle.metroid_format.specs.declared.command.Finish.the-variants.{End as Ended, Refused as Faulty}
-use Rattle.metroid_format.specs.declared.words.Reading.{Reading}
-use Rattle.metroid_format.specs.declared.words.Reading.the-variants.{Wrote, Refused as Unread, NoRoom}
-use Rattle.metroid_format.specs.declared.words.Writing.{Writing}
-use Rattle.metroid_format.specs.declared.words.Writing.the-variants.{Wrote as Put, InvalidWord, NoRoom as NoSpace}
-use Rattle.engine_base.proofs.Picks.{by-test, answers}
+use Rattle.engine_base.proofs.Picks.{by-test}
 use Rattle.metroid_format.proofs.command.Laws.{Stands, found, next-within}
 use Rattle.engine_base.proofs.Buffers.{Written, written-none, written-more}
 
@@ -45,11 +41,11 @@ module _ (kind : Kind) (w : ℕ) (r : Decoded) (q : r ≡ commandAt kind (pair w
     word-other g = rw (← q, e) (simp (ne-eqb (wordOf c) w (λ h. g (f ∙ h))))
 
 module _ (kind : Kind) (bytes : List ℕ) where
-  pub straight-next : (left l at : ℕ) (d : Decoded) → left ≡ suc l → commandAt kind bytes at ≡ d → straightFrom kind bytes left at ≡ straightBy (λ next. straightFrom kind bytes l next) d
+  pub straight-next : (left l at : ℕ) (d : Decoded) → left ≡ suc l → commandAt kind bytes at ≡ d → straightFrom kind bytes left at ≡ straightBy at (λ next. straightFrom kind bytes l next) d
   unfolding straightFrom
   straight-next left l at d e f = rw (e, f)
 
-  straight-none : (left at : ℕ) → left ≡ 0 → straightFrom kind bytes left at ≡ record { words = []; finish = Faulty past-data at }
+  straight-none : (left at : ℕ) → left ≡ 0 → straightFrom kind bytes left at ≡ record { words = []; reach = at; finish = Faulty past-data at }
   unfolding straightFrom
   straight-none left at e = rw e
 
@@ -92,7 +88,7 @@ module _ (kind : Kind) (bytes : List ℕ) where
 
         -- w is the command's word, b whether the command is an end, and now′ the buffer with the word
         module _ (c : Command) (next : ℕ) (e : r ≡ Found c next) (w : ℕ) (f : w ≡ wordOf c) (now′ : List ℕ) (g : now′ ≡ set now n w) (b : Bool) (d : b ≡ isEnd c) where
-          after : (x : Bool) → b ≡ x → straightFrom kind bytes (length bytes - n) at ≡ afterCommand x w (straightFrom kind bytes (length bytes - (n + 1)) next)
+          after : (x : Bool) → b ≡ x → straightFrom kind bytes (length bytes - n) at ≡ afterCommand x w next (straightFrom kind bytes (length bytes - (n + 1)) next)
           after x t = straight-next _ _ at _ one-more (sym q ∙ e) ∙ rw (← d, t, f)
 
           pub decodes-end : b ≡ true → Decodes (straight kind bytes) before (n + 1) Ended now′
@@ -123,18 +119,18 @@ word-right kind w (Refused number offset) e = rw e tt
 pub word-stands : (kind : Kind) (w : ℕ) {c : Command} {next : ℕ} → commandOfWord kind w ≡ Found c next → Stands kind (pair w) 0 c next × (wordOf c ≡ w)
 word-stands kind w e = subst (Word kind w) e (word-right kind w (commandAt kind (pair w) 0) refl)
 
-empty-drop : (i : ℕ) (l : List ℕ) → i ≤ length l → isEmpty (drop i l) ≡ eqb i (length l)
-empty-drop zero [] h = refl
-empty-drop zero (x ∷ xs) h = sym (eqb·zero-suc (length xs))
-empty-drop (suc i) [] h = absurd (omega arith)
-empty-drop (suc i) (x ∷ xs) h = empty-drop i xs (omega arith) ∙ sym (eqb·suc-suc i (length xs))
+none-left : (i : ℕ) (l : List ℕ) → i ≤ length l → eqb (length (drop i l)) 0 ≡ eqb i (length l)
+none-left zero [] h = refl
+none-left zero (x ∷ xs) h = eqb·suc-zero (length xs) ∙ sym (eqb·zero-suc (length xs))
+none-left (suc i) [] h = absurd (omega arith)
+none-left (suc i) (x ∷ xs) h = none-left i xs (omega arith) ∙ sym (eqb·suc-suc i (length xs))
 
 module _ (kind : Kind) (words : List ℕ) where
   encoded-next : (i : ℕ) (d : Decoded) → i < length words → commandOfWord kind (getD words i 0) ≡ d → encoded kind (drop i words) ≡ encodedBy (getD words i 0) (drop (i + 1) words) (encoded kind (drop (i + 1) words)) d
   unfolding encoded
   encoded-next i d h e = rw (drop-cons words i 0, add-one i) (rw e)
 
-  encoded-none : (i : ℕ) → length words ≤ i → encoded kind (drop i words) ≡ invalid
+  encoded-none : (i : ℕ) → length words ≤ i → encoded kind (drop i words) ≡ record { bytes = []; valid = false }
   unfolding encoded
   encoded-none i h = rw (drop-of-length-le words h)
 
@@ -189,66 +185,9 @@ module _ (kind : Kind) (words : List ℕ) where
           pub encodes-end : b ≡ true → Encodes (encoded kind words) before (n + next) (eqb (i + 1) (length words)) now′
           encodes-end t =
               let s = rest-of _ (after-word true t) in
-              encodes _ (n + next) _ (more-bytes [] (rw append-nil (s .0))) (s .1 ∙ empty-drop (i + 1) words (omega arith))
+              encodes _ (n + next) _ (more-bytes [] (rw append-nil (s .0))) (s .1 ∙ none-left (i + 1) words (omega arith))
 
           pub halfway-more : b ≡ false → Halfway before now′ (i + 1) (n + next)
           halfway-more t =
               let s = rest-of _ (after-word false t) in
               record { within = omega arith; small = omega (arith, m .small, next-small); written = more-bytes _ (s .0); judged = s .1 }
-
--- what is written whole stands before what the buffer held
-filled-whole : (vs before after : List ℕ) → length vs ≤ length before → after ≡ sets before 0 vs → after ≡ vs ++ drop (length vs) before
-filled-whole vs before after h e = e ∙ sets-eq vs before 0 (omega arith) ∙ rw zero-add
-
--- part is the data, and d what a first decoding of it answers
-module _ (limit : ℕ) (kind : Kind) (bytes part before : List ℕ) (p : part ≡ take limit bytes) where
-  reads-by : (x : Reading) (after : List ℕ) → readWords limit kind bytes (length before) ≡ x → after ≡ leftBy x (straight kind part .words) before → Reads limit kind bytes before x after
-  unfolding wordsLeft
-  reads-by x after e f = record { answered = answers toldReading x _ (sym e); buffer = rw (e, ← p) f }
-
-  module _ (scratch used : List ℕ) (count : ℕ) (finish : Finish) (d : Decodes (straight kind part) scratch count finish used) where
-    pub reads-short : length before < count → Reads limit kind bytes before NoRoom before
-    unfolding readWords
-    reads-short h = reads-by NoRoom before (rw (← p) (simp (lt-leb _ _ (rw (d .counted) at h)))) refl
-
-    module _ (h : count ≤ length before) where
-      fits-in : leb (length (straight kind part .words)) (length before) ≡ true
-      fits-in = le-leb _ _ (rw (d .counted) at h)
-
-      answer-is : readWords limit kind bytes (length before) ≡ finished count finish
-      unfolding readWords
-      answer-is = rw (← p) (simp (fits-in, d .counted, d .stopped))
-
-      pub reads-refused : (number at : ℕ) → finish ≡ Faulty number at → Reads limit kind bytes before (Unread number at) before
-      reads-refused number at e = reads-by _ before (answer-is ∙ rw e) refl
-
-      pub reads-all : finish ≡ Ended → (count′ : ℕ) (finish′ : Finish) (after : List ℕ) → Decodes (straight kind part) before count′ finish′ after → Reads limit kind bytes before (Wrote count) after
-      reads-all e count′ finish′ after d′ =
-          reads-by _ after (answer-is ∙ rw e) (rw (d .counted) (filled-whole (straight kind part .words) before after (rw (d .counted) at h) (d′ .filled)))
-
-module _ (limit : ℕ) (kind : Kind) (words before : List ℕ) where
-  writes-by : (x : Writing) (after : List ℕ) → writeWords limit kind words (length before) ≡ x → after ≡ putBy x (encoded kind words .bytes) before → Writes limit kind words before x after
-  unfolding bytesLeft
-  writes-by x after e f = record { answered = answers toldWriting x _ (sym e); buffer = rw e f }
-
-  module _ (scratch used : List ℕ) (count : ℕ) (valid : Bool) (d : Encodes (encoded kind words) scratch count valid used) where
-    pub writes-invalid : valid ≡ false → Writes limit kind words before InvalidWord before
-    unfolding writeWords
-    writes-invalid v = writes-by _ before (rw (← d .judged, v)) refl
-
-    module _ (v : valid ≡ true) where
-      pub writes-short : length before < count → Writes limit kind words before NoSpace before
-      unfolding writeWords
-      writes-short h = writes-by _ before (rw (← d .judged, v) (simp (lt-leb _ _ (rw (d .counted) at h)))) refl
-
-      module _ (h : count ≤ length before) where
-        pub writes-long : limit < count → Writes limit kind words before NoSpace before
-        unfolding writeWords
-        writes-long l = writes-by _ before (rw (← d .judged, v) (simp (le-leb _ _ (rw (d .counted) at h), lt-leb _ _ (rw (d .counted) at l)))) refl
-
-        pub writes-all : count ≤ limit → (count′ : ℕ) (valid′ : Bool) (after : List ℕ) → Encodes (encoded kind words) before count′ valid′ after → Writes limit kind words before (Put count) after
-        unfolding writeWords
-        writes-all l count′ valid′ after d′ =
-            writes-by _ after
-            (rw (← d .judged, v) (simp (le-leb _ _ (rw (d .counted) at h), le-leb _ _ (rw (d .counted) at l), d .counted)))
-            (rw (d .counted) (filled-whole (encoded kind words .bytes) before after (rw (d .counted) at h) (d′ .filled)))

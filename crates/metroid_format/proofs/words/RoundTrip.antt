@@ -3,16 +3,15 @@ use Prim.Native.Nat.{ℕ, zero, suc, _+_, _-_, _*_, _/_, _%_, _≤_, _<_}
 use mathlib.Core.Bool.{Bool, true, false}
 use mathlib.Core.List.{List, [], _∷_, _++_}
 use mathlib.Core.Path.{_≡_, refl, sym, ap, _∙_}
-use native.Mathlib.Nat.{add-zero, sub-zero}
+use native.Mathlib.Nat.{add-zero, zero-add, sub-zero}
 use native.Mathlib.Numerals.{add-one}
 use native.Mathlib.Omega.{arith}
-use borrow.Author.Tests.{eq-eqb, le-leb, leb-true}
-use lib.Dec.{leb}
+use borrow.Author.Tests.{eq-eqb, eqb-true, le-leb, leb-true}
+use lib.Dec.{leb, eqb}
 use lib.ListN.{length, getD, take, drop, length-take, length-drop, length-append}
 use lib.Seq.{length-take-le, take-take, take-add, take-append-seam, drop-append-seam, drop-drop, getD-take, getD-drop, drop-cons}
-use Rattle.engine_base.specs.Pick.{pick}
 use Rattle.metroid_format.specs.Command.{commandAt, wordOf, isEnd}
-use Rattle.metroid_format.specs.Words.{pair, commandOfWord, Straight, finished, straight, straightFrom, straightBy, afterCommand, Encoded, encoded, encodedBy, beforeRest, isEmpty, readWords, writeWords}
+use Rattle.metroid_format.specs.Words.{pair, commandOfWord, Straight, finished, straight, straightFrom, straightBy, afterCommand, Encoded, encoded, encodedBy, beforeRest, readWords, wordsLeft, writeWords, bytesLeft, upToEnd, WrittenAs, ReadAs, WritesBack, ReadsBack}
 use Rattle.metroid_format.specs.declared.command.Kind.{Kind}
 use Rattle.metroid_format.specs.declared.command.Command.{Command}
 use Rattle.metroid_format.specs.declared.command.Command.the-variants.{End, EndLoop, BeginLoop, Length, Note}
@@ -20,7 +19,9 @@ use Rattle.metroid_format.specs.declared.command.Decoded.{Decoded}
 use Rattle.metroid_format.specs.declared.command.Decoded.the-variants.{Found, Refused}
 use Rattle.metroid_format.specs.declared.command.Finish.{Finish}
 use Rattle.metroid_format.specs.declared.command.Finish.the-variants.{End as Ended, Refused as Faulty}
-use Rattle.metroid_format.specs.declared.words.Reading.the-variants.{Wrote, NoRoom}
+use Rattle.metroid_format.specs.declared.words.Reading.{Reading}
+use Rattle.metroid_format.specs.declared.words.Reading.the-variants.{Wrote}
+use Rattle.metroid_format.specs.declared.words.Writing.{Writing}
 use Rattle.metroid_format.specs.declared.words.Writing.the-variants.{Wrote as Put}
 use Rattle.engine_base.proofs.Picks.{by-test, false-true}
 use Rattle.metroid_format.proofs.command.Laws.{Stands, is-end, is-end-loop, is-begin, is-length, is-note, found, stands, note-small, next-after, next-within}
@@ -136,72 +137,93 @@ within-join xs ys l at p q =
 not-ended : (number at : ℕ) → Faulty number at ≡ Ended → ⊥
 not-ended number at e = let z : _≡_ {A = ℕ} 0 1 = cc in absurd (omega arith)
 
--- only an end gives a count
-ended : (n room : ℕ) (f : Finish) (count : ℕ) → pick (leb n room) (finished n f) NoRoom ≡ Wrote count → f ≡ Ended
-ended n room Ended count e = refl
-ended n room (Faulty number at) count e =
-    by-test (λ x. x ≡ Wrote count → Faulty number at ≡ Ended) (leb n room)
-    (λ _ q. let z : _≡_ {A = ℕ} 0 1 = cc in absurd (omega arith))
-    (λ _ q. let z : _≡_ {A = ℕ} 0 1 = cc in absurd (omega arith)) e
-
 module _ (kind : Kind) (bytes : List ℕ) where
   -- what is read from an offset on is encoded as the bytes from there
-  record Again (at : ℕ) (words : List ℕ) : Type 0 where
-    valid : encoded kind words .valid ≡ true
-    same : Within (encoded kind words .bytes) bytes at
+  record Again (at : ℕ) (s : Straight) : Type 0 where
+    valid : encoded kind (s .words) .valid ≡ true
+    same : Within (encoded kind (s .words) .bytes) bytes at
+    size : s .reach ≡ at + length (encoded kind (s .words) .bytes)
 
   placed-within : (at next : ℕ) (c : Command) → Placed kind bytes at c next → Within (take (sizeOf c) (pair (wordOf c))) bytes at
   unfolding Within
   placed-within at next c p = rw (length-bytes c) (p .same-bytes)
 
-  again-end : (at next : ℕ) (c : Command) → Placed kind bytes at c next → isEnd c ≡ true → Again at (wordOf c ∷ [])
-  again-end at next c p b =
+  again-end : (at next : ℕ) (c : Command) (rest : Straight) → Placed kind bytes at c next → isEnd c ≡ true → Again at (afterCommand true (wordOf c) next rest)
+  again-end at next c rest p b =
       let e = encoded-word kind c [] true (p .word-stands) b in
-      record { valid = rw e; same = rw e (placed-within at next c p) }
+      record { valid = rw e; same = rw e (placed-within at next c p); size = rw (e, length-bytes c) (p .next-is) }
 
-  again-more : (at next : ℕ) (c : Command) (ws : List ℕ) → Placed kind bytes at c next → isEnd c ≡ false → Again next ws → Again at (wordOf c ∷ ws)
-  again-more at next c ws p b a =
-      let e = encoded-word kind c ws false (p .word-stands) b in
-      let q : at + length (take (sizeOf c) (pair (wordOf c))) ≡ next = rw (length-bytes c) (sym (p .next-is)) in
+  again-more : (at next : ℕ) (c : Command) (rest : Straight) → Placed kind bytes at c next → isEnd c ≡ false → Again next rest → Again at (afterCommand false (wordOf c) next rest)
+  again-more at next c rest p b a =
+      let e = encoded-word kind c (rest .words) false (p .word-stands) b in
+      let xs = take (sizeOf c) (pair (wordOf c)) in
+      let ys = encoded kind (rest .words) .bytes in
+      let q : at + length xs ≡ next = rw (length-bytes c) (sym (p .next-is)) in
       record {
         valid = rw e (a .valid);
-        same = rw e (within-join (take (sizeOf c) (pair (wordOf c))) (encoded kind ws .bytes) bytes at (placed-within at next c p) (rw q (a .same)));
+        same = rw e (within-join xs ys bytes at (placed-within at next c p) (rw q (a .same)));
+        size = rw e (omega (arith, a .size, q, length-append xs ys));
       }
 
-  module _ (at : ℕ) (go : ℕ → Straight) (rest : (next : ℕ) → go next .finish ≡ Ended → Again next (go next .words)) where
+  module _ (at : ℕ) (go : ℕ → Straight) (rest : (next : ℕ) → go next .finish ≡ Ended → Again next (go next)) where
     again-after : (c : Command) (next : ℕ) (b : Bool) → isEnd c ≡ b → Stands kind bytes at c next
-        → afterCommand b (wordOf c) (go next) .finish ≡ Ended → Again at (afterCommand b (wordOf c) (go next) .words)
-    again-after c next true b s f = again-end at next c (placed kind bytes at s) b
-    again-after c next false b s f = again-more at next c (go next .words) (placed kind bytes at s) b (rest next f)
+        → afterCommand b (wordOf c) next (go next) .finish ≡ Ended → Again at (afterCommand b (wordOf c) next (go next))
+    again-after c next true b s f = again-end at next c (go next) (placed kind bytes at s) b
+    again-after c next false b s f = again-more at next c (go next) (placed kind bytes at s) b (rest next f)
 
-    again-by : (d : Decoded) → commandAt kind bytes at ≡ d → straightBy go d .finish ≡ Ended → Again at (straightBy go d .words)
+    again-by : (d : Decoded) → commandAt kind bytes at ≡ d → straightBy at go d .finish ≡ Ended → Again at (straightBy at go d)
     again-by (Found c next) e f = again-after c next (isEnd c) refl (found kind bytes at e) f
     again-by (Refused number offset) e f = absurd (not-ended number offset f)
 
-  again : (left at : ℕ) → straightFrom kind bytes left at .finish ≡ Ended → Again at (straightFrom kind bytes left at .words)
+  again : (left at : ℕ) → straightFrom kind bytes left at .finish ≡ Ended → Again at (straightFrom kind bytes left at)
   unfolding straightFrom
   again zero at f = absurd (not-ended _ at f)
   again (suc left) at f = again-by at (λ next. straightFrom kind bytes left next) (λ next g. again left next g) (commandAt kind bytes at) refl f
 
--- data that reads, written again under the same kind, gives the same bytes up to its end
-pub record SameBytes (limit : ℕ) (kind : Kind) (bytes words : List ℕ) : Type 0 where
-  pub size : ℕ
-  pub writes : (room : ℕ) → size ≤ room → writeWords limit kind words room ≡ Put size
-  pub same : encoded kind words .bytes ≡ take size bytes
+  -- data that end are, up to and including the end, the bytes of their words
+  up-to-end : straight kind bytes .finish ≡ Ended → upToEnd kind bytes ≡ encoded kind (straight kind bytes .words) .bytes
+  unfolding upToEnd Within
+  up-to-end f =
+      let a = again (length bytes) 0 f in
+      rw (a .size ∙ zero-add _) (a .same)
 
-pub read-then-write : (limit : ℕ) (kind : Kind) (bytes : List ℕ) (room count : ℕ) → readWords limit kind bytes room ≡ Wrote count → SameBytes limit kind bytes (straight kind (take limit bytes) .words)
-unfolding readWords writeWords Within
-read-then-write limit kind bytes room count e =
+-- valid words whose bytes are within the limit are written into any buffer with room
+module _ (limit : ℕ) (kind : Kind) (words : List ℕ) (v : encoded kind words .valid ≡ true) (l : length (encoded kind words .bytes) ≤ limit) (out : List ℕ) (h : length (encoded kind words .bytes) ≤ length out) where
+  puts : writeWords limit kind words (length out) ≡ Put (length (encoded kind words .bytes))
+  unfolding writeWords
+  puts = rw v (simp (le-leb _ _ h, le-leb _ _ l))
+
+  written-as : WrittenAs limit kind words (encoded kind words .bytes) out
+  unfolding bytesLeft
+  written-as = record { answer = puts; start = rw puts (take-append-seam (encoded kind words .bytes) _) }
+
+-- only an end gives a count, that of the words
+ended : (n count : ℕ) (f : Finish) → finished n f ≡ Wrote count → (f ≡ Ended) × (n ≡ count)
+ended n count Ended e = (refl, cc)
+ended n count (Faulty number at) e = let z : _≡_ {A = ℕ} 0 1 = cc in absurd (omega arith)
+
+reading-ended : (limit : ℕ) (kind : Kind) (bytes : List ℕ) (room count : ℕ) → readWords limit kind bytes room ≡ Wrote count
+    → (straight kind (take limit bytes) .finish ≡ Ended) × (length (straight kind (take limit bytes) .words) ≡ count)
+unfolding readWords
+reading-ended limit kind bytes room count e =
+    let s = straight kind (take limit bytes) in
+    by-test (λ x. x ≡ Wrote count → (s .finish ≡ Ended) × (length (s .words) ≡ count)) (leb (length (s .words)) room)
+    (λ _. ended (length (s .words)) count (s .finish))
+    (λ _ q. let z : _≡_ {A = ℕ} 0 1 = cc in absurd (omega arith)) e
+
+pub writes-back : (limit : ℕ) (kind : Kind) (bytes before : List ℕ) (answer : Reading) (after : List ℕ) → answer ≡ readWords limit kind bytes (length before) → after ≡ wordsLeft limit kind bytes before
+    → WritesBack limit kind bytes answer after
+unfolding wordsLeft
+writes-back limit kind bytes before answer after q b count e out h =
     let part = take limit bytes in
-    let a = again kind part (length part) 0 (ended (length (straight kind part .words)) room (straight kind part .finish) count e) in
-    let size = length (encoded kind (straight kind part .words) .bytes) in
-    let l = within-length (encoded kind (straight kind part .words) .bytes) part 0 (a .same) in
-    let m : size ≤ limit = omega (arith, l, length-take limit bytes) in
-    record {
-      size = size;
-      writes = λ room′ h. rw (a .valid) (simp (le-leb size room′ h, le-leb size limit m));
-      same = sym (a .same) ∙ take-take size limit bytes m;
-    }
+    let words = straight kind part .words in
+    let r : readWords limit kind bytes (length before) ≡ Wrote count = sym q ∙ e in
+    let d = reading-ended limit kind bytes (length before) count r in
+    let a = again kind part (length part) 0 (d .0) in
+    let u = up-to-end kind part (d .0) in
+    let w : take count after ≡ words = rw (b, r, ← d .1) (take-append-seam words _) in
+    let l = within-length (encoded kind words .bytes) part 0 (a .same) in
+    rw (w, u) (written-as limit kind words (a .valid) (omega (arith, l, length-take limit bytes)) out (rw u at h))
 
 within-split : (xs ys l : List ℕ) (at : ℕ) → Within (xs ++ ys) l at → Within xs l at × Within ys l (at + length xs)
 unfolding Within
@@ -212,16 +234,16 @@ within-split xs ys l at p =
     let joined : xs ++ take (length ys) (drop (length xs) (drop at l)) ≡ xs ++ ys = rw (take-add (length xs) (length ys) (drop at l), first) at whole in
     (first, rw (← drop-drop (length xs) at l) (sym (drop-append-seam xs _) ∙ ap (λ (k : List ℕ). drop (length xs) k) joined ∙ drop-append-seam xs ys))
 
-empty-is : (ws : List ℕ) → isEmpty ws ≡ true → ws ≡ []
+empty-is : (ws : List ℕ) → eqb (length ws) 0 ≡ true → ws ≡ []
 empty-is [] e = refl
-empty-is (w ∷ ws) e = absurd (false-true e)
+empty-is (w ∷ ws) e = absurd (omega (arith, eqb-true (length (w ∷ ws)) 0 e))
 
 module _ (kind : Kind) (bytes : List ℕ) where
   Back : List ℕ → Encoded → Type 0
-  Back words e = (left at : ℕ) → e .valid ≡ true → Within (e .bytes) bytes at → length (e .bytes) ≤ left → straightFrom kind bytes left at ≡ record { words = words; finish = Ended }
+  Back words e = (left at : ℕ) → e .valid ≡ true → Within (e .bytes) bytes at → length (e .bytes) ≤ left → straightFrom kind bytes left at ≡ record { words = words; reach = at + length (e .bytes); finish = Ended }
 
   straight-word : (left at : ℕ) (c : Command) (next : ℕ) (b : Bool) → Stands kind bytes at c next → isEnd c ≡ b → 0 < left
-      → straightFrom kind bytes left at ≡ afterCommand b (wordOf c) (straightFrom kind bytes (left - 1) next)
+      → straightFrom kind bytes left at ≡ afterCommand b (wordOf c) next (straightFrom kind bytes (left - 1) next)
   straight-word left at c next b s e h =
       straight-next kind bytes left (left - 1) at (Found c next) (omega arith) (stands kind bytes at s) ∙ rw e
 
@@ -238,14 +260,15 @@ module _ (kind : Kind) (bytes : List ℕ) where
     unfolding Back
     back-after c next true b s e left at v p h =
         straight-word left at c (at + next) true (stands-word c next s e at p) b (omega (arith, length-word c next s e at, next-after s))
-        ∙ rw (e, empty-is ws v)
+        ∙ rw (e, empty-is ws v, length-word c next s e at)
     back-after c next false b s e left at v p h =
         let n = length-word c next s e at in
         let i = next-after s in
         let q = within-split (take next (pair w)) (encoded kind ws .bytes) bytes at p in
         let m = simp length-append at h in
         let r = rest (left - 1) (at + next) v (rw n at (q .1)) (omega arith) in
-        straight-word left at c (at + next) false (stands-word c next s e at (q .0)) b (omega arith) ∙ rw (e, r)
+        let size : at + length (take next (pair w) ++ encoded kind ws .bytes) ≡ at + next + length (encoded kind ws .bytes) = simp (length-append, n) (omega arith) in
+        straight-word left at c (at + next) false (stands-word c next s e at (q .0)) b (omega arith) ∙ rw (e, r, size)
 
     back-by : (d : Decoded) → commandOfWord kind w ≡ d → Back (w ∷ ws) (encodedBy w ws (encoded kind ws) d)
     unfolding Back
@@ -257,31 +280,50 @@ module _ (kind : Kind) (bytes : List ℕ) where
   back [] = λ left at v p h. absurd (false-true v)
   back (w ∷ ws) = back-by w ws (back ws) (commandOfWord kind w) refl
 
--- only valid words within the limit are written
-written-within : (limit : ℕ) (kind : Kind) (words : List ℕ) (room size : ℕ) → writeWords limit kind words room ≡ Put size → (encoded kind words .valid ≡ true) × (length (encoded kind words .bytes) ≤ limit)
+-- only valid words within the limit are written, and the count is that of their bytes
+record Fitting (limit : ℕ) (e : Encoded) (count : ℕ) : Type 0 where
+  valid : e .valid ≡ true
+  within : length (e .bytes) ≤ limit
+  size : length (e .bytes) ≡ count
+
+writing-fits : (limit : ℕ) (kind : Kind) (words : List ℕ) (room count : ℕ) → writeWords limit kind words room ≡ Put count → Fitting limit (encoded kind words) count
 unfolding writeWords
-written-within limit kind words room size e =
+writing-fits limit kind words room count e =
     let n = length (encoded kind words .bytes) in
-    by-test (λ x. x ≡ Put size → (encoded kind words .valid ≡ true) × (n ≤ limit)) (encoded kind words .valid)
-    (λ v. by-test (λ x. x ≡ Put size → (encoded kind words .valid ≡ true) × (n ≤ limit)) (leb n room)
-    (λ _. by-test (λ x. x ≡ Put size → (encoded kind words .valid ≡ true) × (n ≤ limit)) (leb n limit)
-    (λ l _. (v, leb-true n limit l))
+    by-test (λ x. x ≡ Put count → Fitting limit (encoded kind words) count) (encoded kind words .valid)
+    (λ v. by-test (λ x. x ≡ Put count → Fitting limit (encoded kind words) count) (leb n room)
+    (λ _. by-test (λ x. x ≡ Put count → Fitting limit (encoded kind words) count) (leb n limit)
+    (λ l q. record { valid = v; within = leb-true n limit l; size = cc })
     (λ _ q. let z : _≡_ {A = ℕ} 0 1 = cc in absurd (omega arith)))
     (λ _ q. let z : _≡_ {A = ℕ} 0 1 = cc in absurd (omega arith)))
     (λ _ q. let z : _≡_ {A = ℕ} 0 1 = cc in absurd (omega arith)) e
 
--- a list that writes, read again with room, gives the same words, whatever stands behind its bytes
-pub record SameWords (limit : ℕ) (kind : Kind) (words bytes : List ℕ) : Type 0 where
-  pub reads : (room : ℕ) → length words ≤ room → readWords limit kind bytes room ≡ Wrote (length words)
-  pub same : straight kind (take limit bytes) .words ≡ words
+-- data that are read straight as these words, in so many bytes
+module _ (limit : ℕ) (kind : Kind) (bytes words : List ℕ) (size : ℕ) (s : straight kind (take limit bytes) ≡ record { words = words; reach = size; finish = Ended }) where
+  ends-there : size ≤ limit → upToEnd kind (take limit bytes) ≡ take size bytes
+  unfolding upToEnd
+  ends-there l = rw s (take-take size limit bytes l)
 
-pub write-then-read : (limit : ℕ) (kind : Kind) (words : List ℕ) (room size : ℕ) → writeWords limit kind words room ≡ Put size
-    → (behind : List ℕ) → SameWords limit kind words (encoded kind words .bytes ++ behind)
-unfolding readWords Within Back
-write-then-read limit kind words room size e behind =
-    let bytes = encoded kind words .bytes in
-    let f = written-within limit kind words room size e in
-    let part = take limit (bytes ++ behind) in
-    let w : take (length bytes) part ≡ bytes = take-take (length bytes) limit (bytes ++ behind) (f .1) ∙ take-append-seam bytes behind in
-    let s = back kind part words (length part) 0 (f .0) w (rw sub-zero at (within-length bytes part 0 w)) in
-    record { reads = λ room′ h. rw s (simp (le-leb (length words) room′ h)); same = rw s }
+  module _ (out : List ℕ) (h : length words ≤ length out) where
+    reads : readWords limit kind bytes (length out) ≡ Wrote (length words)
+    unfolding readWords
+    reads = rw s (simp (le-leb _ _ h))
+
+    read-as : ReadAs limit kind bytes words out
+    unfolding wordsLeft
+    read-as = record { answer = reads; start = rw (reads, s) (take-append-seam words _) }
+
+pub reads-back : (limit : ℕ) (kind : Kind) (words before : List ℕ) (answer : Writing) (after : List ℕ) → answer ≡ writeWords limit kind words (length before) → after ≡ bytesLeft limit kind words before
+    → ReadsBack limit kind words answer after
+unfolding bytesLeft Within Back
+reads-back limit kind words before answer after q b count e bytes same =
+    let enc = encoded kind words .bytes in
+    let r : writeWords limit kind words (length before) ≡ Put count = sym q ∙ e in
+    let f = writing-fits limit kind words (length before) count r in
+    let g : take count after ≡ enc = rw (b, r, ← f .size) (take-append-seam enc _) in
+    let part = take limit bytes in
+    let c : count ≤ limit = omega (arith, f .within, f .size) in
+    let w : take (length enc) part ≡ enc = rw (f .size) (take-take count limit bytes c ∙ same ∙ g) in
+    let s = back kind part words (length part) 0 (f .valid) w (rw sub-zero at (within-length enc part 0 w)) in
+    let t : straight kind part ≡ record { words = words; reach = count; finish = Ended } = s ∙ rw (zero-add (length enc), f .size) in
+    (ends-there limit kind bytes words count t c ∙ same, λ out h. read-as limit kind bytes words count t out h)

@@ -1,5 +1,5 @@
 -- How many commands a channel can read in a frame.
-use Prim.Native.Nat.{ℕ, zero, suc, _+_, _≤_}
+use Prim.Native.Nat.{ℕ, zero, suc, _+_, _/_, _≤_}
 use mathlib.Core.Bool.{true}
 use mathlib.Core.List.{List, [], _∷_}
 use mathlib.Core.Path.{_≡_, refl}
@@ -19,7 +19,7 @@ use Rattle.metroid_format.specs.declared.header.Track.{Track}
 use Rattle.metroid_format.specs.declared.channel.Cursor.{Cursor}
 use Rattle.metroid_format.specs.declared.channel.Stop.{Stop}
 use Rattle.metroid_player.specs.Record.{four, cursorOf, channelsFit}
-use Rattle.metroid_player.specs.Counts.{pairs, most-commands, AtMost}
+use Rattle.metroid_player.specs.Counts.{most-commands, AtMost}
 use Rattle.metroid_player.specs.Frame.{
   turnBy,
   turnOf,
@@ -87,7 +87,7 @@ module _ (bank : List ℕ) (track : Track) (extra : ℕ) (one : extra ≤ 1) whe
       (λ _.
       let until = readUntil data-limit (channelSource bank track voice) (cursorOf channel) in
       rw (turn-by-count channel (until .cursor) (until .count) (until .stop))
-      (count-bound (channelSource bank track voice) pairs extra (source-within bank track voice)
+      (count-bound (channelSource bank track voice) (data-limit / 2) extra (source-within bank track voice)
       (cursorOf channel) one (p u))) λ _.
       omega arith) λ _.
       omega arith

@@ -1,17 +1,16 @@
 use Prim.Native.Nat.{_-_}
-use mathlib.Core.Path.{refl}
 use native.Mathlib.Omega.{arith}
 use borrow.Author.Needs.{needs}
 use lib.ListN.{length}
-use Rattle.engine_base.proofs.Buffers.{Filling, filling-none, filling-more, filled, filling-full}
+use Rattle.engine_base.proofs.Buffers.{sets-out, Filling, filling-none, filling-more, filled}
 use Rattle.engine_base.proofs.buffer.fill32.Statement.{statement}
 use Rattle.engine_base.proofs.buffer.fill32.Tie as tie
 
 abbrev Inv-loop : tie.InvT-loop
-Inv-loop out₀ at values room i₀ out i = Filling out₀ at values out i
+Inv-loop out₀ at values i₀ out i = Filling out₀ at values out i
 
 abbrev μ-loop : tie.MeasureT-loop
-μ-loop out₀ at values room i₀ out i = length values - i
+μ-loop out₀ at values i₀ out i = length values - i
 
 pub fill32-spec : {M : Type 1} → statement M
 fill32-spec =
@@ -19,17 +18,16 @@ fill32-spec =
     (tie.spec
     Inv-loop
     μ-loop
-    (λ c κs. search needs)
+    (λ c. search sets-out depth 8)
     (λ c. filling-none _ _ _)
     (λ c. search needs)
-    (λ c. filling-full _ _ _ _ _ (c .before .before .loop .inv) (omega (arith, c .before .before .before .left-from .ensures)))
     (λ c. search needs)
-    (λ c. search needs)
-    (λ c. omega (arith, c .before .before .before .before .left-from .ensures))
-    (λ c. search needs)
-    (λ c. omega (arith, c .before .before .before .loop .inv .size, c .before .before .before .before .left-from .ensures))
     (λ c. omega arith)
+    (λ c κs. search needs)
+    (λ c. search needs)
     (λ c. omega arith)
-    (λ c. filling-more _ _ _ _ _ (c .before .before .before .loop .inv) _ (c .before .before .loop-test .taken) _ refl)
+    (λ c.
+    let l = c .before .before .before .before .before in
+    filling-more _ _ _ _ _ (l .before .loop .inv) _ (l .loop-test .taken) _ (c .before .before .put32 .ensures))
     (λ c. search needs)
     (λ c. search filled depth 8))

@@ -15,9 +15,7 @@ word-spec =
     let low = c .if1 .taken in
     let high : length (a .bytes .now) ≤ a .at + 1 = omega arith in
     simp List·getD-eq-default)
-    (λ c κs. search needs)
-    (λ c. search needs)
-    (λ c. search needs)
+    (λ c κs. search needs) (λ c. search needs) (λ c. search needs)
     (λ c κs. search needs)
     (λ c. search needs)
     (λ c. search needs)

@@ -9,11 +9,7 @@ unfolding addressesFit
 addresses-fit-spec =
     tie.close
     (tie.spec
-    (λ c κs. search needs)
-    (λ c. search guards depth 20)
-    (λ c κs. search needs)
-    (λ c. search guards depth 20)
-    (λ c κs. search needs)
-    (λ c. search guards depth 20)
-    (λ c κs. search needs)
-    (λ c. search guards depth 20))
+    (λ c κs. search needs) (λ c. search guards depth 20)
+    (λ c κs. search needs) (λ c. search guards depth 20)
+    (λ c κs. search needs) (λ c. search guards depth 20)
+    (λ c κs. search needs) (λ c. search guards depth 20))
