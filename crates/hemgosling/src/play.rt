@@ -1,20 +1,16 @@
 // Start and frame, for a host that lends its one record.
 use crate::places;
 use engine_base::buffer;
+use metroid_player::event;
 use metroid_player::event::Event;
-use metroid_player::event::Sound;
+use metroid_player::frame;
 use metroid_player::frame::Answer;
 use metroid_player::frame::Started;
 use metroid_player::record::Player;
-use metroid_player::release;
-use metroid_player::release::Release;
 ghost use mathlib.Core.Path.{_≡_};
 ghost use mathlib.Core.List.{_∷_, _++_};
 ghost use lib.Seq.{sets};
-ghost use Rattle.engine_base.specs.Pick.{pick};
-ghost use Rattle.metroid_player.specs.Release.{toldRelease};
-ghost use Rattle.metroid_player.specs.Event.{toldEvent};
-ghost use Rattle.metroid_player.specs.Frame.{startOf, frameOf, answerNumber, answerKind, answerPlace, toldEvents, toldFramed, AnswerWithin};
+ghost use Rattle.metroid_player.specs.Frame.{startOf, frameOf, answerKind, answerPlace, toldEvents, toldFramed, AnswerWithin};
 ghost use Rattle.hemgosling.specs.Places.{placesOf};
 ghost use Rattle.hemgosling.specs.Play.{Starts, Steps, steppedOf};
 
@@ -34,67 +30,6 @@ const EVENT_WORDS: usize = 5;
 pub struct Stepped {
     pub number: u32,
     pub player: Player,
-}
-
-fn release_word(release: Release) -> u32
-    ensures { λ r. ⌜ r ≡ toldRelease release ⌝ }
-{
-    release::quarter_frames(release) as u32
-}
-
-fn flag(b: bool) -> u32
-    ensures { λ r. ⌜ r ≡ pick b 1 0 ⌝ }
-{
-    if b { 1 } else { 0 }
-}
-
-// 0 off, 1 rest, 2 note; whether it began; then three values.
-fn event_words(event: Event) -> [u32; 5]
-    ensures { λ r. ⌜ r ≡ toldEvent event ⌝ }
-{
-    let sound = event.sound;
-    let began = flag(event.began);
-    match sound {
-        Sound::Off => [0, 0, 0, 0, 0],
-        Sound::SquareRest(ctrl1) => [1, began, 0, 0, ctrl1 as u32],
-        Sound::TriangleRest(release) => {
-            let after = release_word(release);
-            [1, began, 0, 0, after]
-        }
-        Sound::NoiseRest => [1, began, 0, 0, 0],
-        Sound::Square(key, period, ctrl1) => [2, began, key as u32, period as u32, ctrl1 as u32],
-        Sound::Triangle(key, period, release) => {
-            let after = release_word(release);
-            [2, began, key as u32, period as u32, after]
-        }
-        Sound::Noise(first, second, third) => {
-            [2, began, first as u32, second as u32, third as u32]
-        }
-    }
-}
-
-fn number_of(answer: Answer) -> u32
-    ensures { λ r. ⌜ r ≡ answerNumber answer ⌝ }
-{
-    match answer {
-        Answer::Events => 0,
-        Answer::End => 0,
-        Answer::Stopped => 0,
-        Answer::Refused(number) => number,
-        Answer::Fault(number, _, _) => number,
-    }
-}
-
-fn kind_of(answer: Answer) -> u32
-    ensures { λ r. ⌜ r ≡ answerKind answer ⌝ }
-{
-    match answer {
-        Answer::Events => 0,
-        Answer::End => 1,
-        Answer::Stopped => 2,
-        Answer::Refused(_) => 3,
-        Answer::Fault(_, _, _) => 3,
-    }
 }
 
 fn place_of(answer: Answer) -> [u32; 2]
@@ -117,7 +52,7 @@ fn put_events(out: &mut [u32], events: [Event; 4])
     let mut i: usize = 0;
     while i < 4 {
         let event = events[i];
-        buffer::fill32(out, EVENTS + EVENT_WORDS * i, &event_words(event));
+        buffer::fill32(out, EVENTS + EVENT_WORDS * i, &event::told(event));
         i += 1;
     }
 }
@@ -127,7 +62,7 @@ fn put_answer(out: &mut [u32], answer: Answer, counts: [u32; 4], events: [Event;
     requires { ⌜ AnswerWithin 4 answer ⌝ }
     ensures { λ _. ⌜ now (out .exit) ≡ sets (now (out .entry)) 0 (answerKind answer ∷ counts ++ (answerPlace answer ++ toldEvents events)) ⌝ }
 {
-    buffer::fill32(out, 0, &[kind_of(answer)]);
+    buffer::fill32(out, 0, &[frame::kind_of(answer)]);
     buffer::fill32(out, COUNTS, &counts);
     buffer::fill32(out, PLACE, &place_of(answer));
     put_events(out, events);
@@ -168,7 +103,7 @@ fn frame_into(
     let counts = framed.counts;
     let events = framed.events;
     let next = framed.player;
-    let number = number_of(told);
+    let number = frame::number_of(told);
     put_answer(answer, told, counts, events);
     Stepped {
         number,

@@ -13,7 +13,9 @@ use metroid_format::header::Track;
 use metroid_format::header::Voice;
 ghost use mathlib.Core.Path.{_≡_};
 ghost use Prim.Native.Nat.{_-_};
-ghost use Rattle.metroid_player.specs.Event.{offEvent, periodAt, envelopeOf, melodicRest, noteCtrl1, melodicNote, noiseSound, soundOf, eventOf};
+ghost use Rattle.metroid_player.specs.Event.{offEvent, periodAt, envelopeOf, melodicRest, noteCtrl1, melodicNote, noiseSound, soundOf, eventOf, toldEvent};
+ghost use Rattle.engine_base.specs.Pick.{pick};
+ghost use Rattle.metroid_player.specs.Release.{toldRelease};
 
 pub enum Sound {
     Off,
@@ -167,4 +169,41 @@ pub(crate) fn event_of(
 {
     let sound = sound_of(bank, track, i, voice, channel);
     Event { began, sound }
+}
+
+fn release_word(release: Release) -> u32
+    ensures { λ r. ⌜ r ≡ toldRelease release ⌝ }
+{
+    release::quarter_frames(release) as u32
+}
+
+fn flag(b: bool) -> u32
+    ensures { λ r. ⌜ r ≡ pick b 1 0 ⌝ }
+{
+    if b { 1 } else { 0 }
+}
+
+// An event as numbers: 0 off, 1 rest, 2 note; whether it began; then three values.
+pub fn told(event: Event) -> [u32; 5]
+    ensures { λ r. ⌜ r ≡ toldEvent event ⌝ }
+{
+    let sound = event.sound;
+    let began = flag(event.began);
+    match sound {
+        Sound::Off => [0, 0, 0, 0, 0],
+        Sound::SquareRest(ctrl1) => [1, began, 0, 0, ctrl1 as u32],
+        Sound::TriangleRest(release) => {
+            let after = release_word(release);
+            [1, began, 0, 0, after]
+        }
+        Sound::NoiseRest => [1, began, 0, 0, 0],
+        Sound::Square(key, period, ctrl1) => [2, began, key as u32, period as u32, ctrl1 as u32],
+        Sound::Triangle(key, period, release) => {
+            let after = release_word(release);
+            [2, began, key as u32, period as u32, after]
+        }
+        Sound::Noise(first, second, third) => {
+            [2, began, first as u32, second as u32, third as u32]
+        }
+    }
 }

@@ -1,4 +1,5 @@
-// Verdicts and answers as text on standard output, for the programs.
+// Verdicts and answers as lines of text, into lent buffers.
 pub mod answer;
-pub mod number;
+mod decimal;
+pub mod line;
 pub mod verdict;

@@ -1,4 +1,5 @@
 // The published examples of document 001, and the most commands in a frame. Each bank has one track.
+use crate::print;
 use crate::tables;
 use metroid_check::verdict;
 use metroid_check::verdict::Verdict;
@@ -11,8 +12,6 @@ use metroid_player::event::Sound;
 use metroid_player::frame::Framed;
 use metroid_player::record::Player;
 use metroid_player::release;
-use metroid_text::answer;
-use metroid_text::number;
 
 const HEADER: usize = 0xbd31;
 
@@ -33,7 +32,7 @@ fn new_line() {
 
 fn show_verdict(bytes: &[u8]) {
     let places = bank::published_places(0, 0);
-    metroid_text::verdict::print(verdict::check(bytes, places, 0));
+    print::verdict(verdict::check(bytes, places, 0));
 }
 
 // Offsets in the bank of both envelopes, then of the four channels.
@@ -43,24 +42,24 @@ fn show_offsets(track: Track) {
     let square2 = voices[1];
     let triangle = voices[2];
     let noise = voices[3];
-    number::print_hex(square1.envelope as u64, 4);
-    number::print_hex(square2.envelope as u64, 4);
-    number::print_hex(square1.data as u64, 4);
-    number::print_hex(square2.data as u64, 4);
-    number::print_hex(triangle.data as u64, 4);
-    number::print_hex(noise.data as u64, 4);
+    print::hex(square1.envelope as u64, 4);
+    print::hex(square2.envelope as u64, 4);
+    print::hex(square1.data as u64, 4);
+    print::hex(square2.data as u64, 4);
+    print::hex(triangle.data as u64, 4);
+    print::hex(noise.data as u64, 4);
 }
 
 // The window, whether it restarts, the release byte, and the offsets.
 fn show_track(track: Track) {
-    number::print_hex(track.window as u64, 2);
-    number::print(track.restart as u64);
-    number::print_hex(track.release as u64, 2);
+    print::hex(track.window as u64, 2);
+    print::number(track.restart as u64);
+    print::hex(track.release as u64, 2);
     show_offsets(track);
     new_line();
 }
 
-pub fn header() {
+pub(crate) fn header() {
     let mut bytes = [0u8; 16384];
     tables::put_tables(&mut bytes);
     tables::put(
@@ -75,9 +74,9 @@ pub fn header() {
 
 fn show_frames(verdict: Verdict) {
     match verdict {
-        Verdict::Pass(frames, _) => number::print(frames as u64),
-        Verdict::Refused(_) => metroid_text::verdict::print(verdict),
-        Verdict::Fault(_, _, _, _) => metroid_text::verdict::print(verdict),
+        Verdict::Pass(frames, _) => print::number(frames as u64),
+        Verdict::Refused(_) => print::verdict(verdict),
+        Verdict::Fault(_, _, _, _) => print::verdict(verdict),
     }
 }
 
@@ -107,21 +106,21 @@ fn show_window(window: u8) {
 }
 
 // The lengths of the three tempos.
-pub fn tempos() {
+pub(crate) fn tempos() {
     show_window(0x00);
     show_window(0x0b);
     show_window(0x17);
 }
 
 fn show_note(frame: u32, key: u8, release: u8) {
-    number::print(frame as u64);
-    number::print_hex(key as u64, 2);
-    number::print(release as u64);
+    print::number(frame as u64);
+    print::hex(key as u64, 2);
+    print::number(release as u64);
     new_line();
 }
 
 fn show_rest(frame: u32) {
-    number::print(frame as u64);
+    print::number(frame as u64);
     io::write_all(1, b" rest\n");
 }
 
@@ -159,7 +158,7 @@ fn ctrl1_of(sound: Sound) -> u8 {
 
 fn show_ctrl1(event: Event) {
     let sound = event.sound;
-    number::print_hex(ctrl1_of(sound) as u64, 2);
+    print::hex(ctrl1_of(sound) as u64, 2);
 }
 
 fn show_frame(view: View, frame: u32, framed: Framed) {
@@ -195,7 +194,7 @@ fn show_beginnings(bytes: &[u8], first: u32, end: u32) {
     );
 }
 
-pub fn triangle_at_128() {
+pub(crate) fn triangle_at_128() {
     let mut bytes = [0u8; 16384];
     put_triangle(
         &mut bytes,
@@ -208,7 +207,7 @@ pub fn triangle_at_128() {
     show_beginnings(&bytes, 343, 406);
 }
 
-pub fn triangle_at_150() {
+pub(crate) fn triangle_at_150() {
     let mut bytes = [0u8; 16384];
     put_triangle(&mut bytes, 0x0b, 5, b"\xb0\x38\x3a\x00");
     show_verdict(&bytes);
@@ -216,7 +215,7 @@ pub fn triangle_at_150() {
 }
 
 // As printed, with C0 for B0: a begin, and no length before the note.
-pub fn triangle_as_printed() {
+pub(crate) fn triangle_as_printed() {
     let mut bytes = [0u8; 16384];
     put_triangle(&mut bytes, 0x0b, 5, b"\xc0\x38\x3a\x00");
     show_verdict(&bytes);
@@ -240,7 +239,7 @@ fn show_envelope(number: u8, default: u8, end: u32) {
 }
 
 // The envelopes with defaults of the track table, to two frames past their end.
-pub fn envelopes() {
+pub(crate) fn envelopes() {
     show_envelope(1, 0xb3, 12);
     show_envelope(2, 0xf4, 11);
     show_envelope(3, 0x34, 12);
@@ -261,11 +260,11 @@ fn show_first_frame(bytes: &[u8]) {
     let places = bank::published_places(0, 0);
     let started = Player::start(bytes, places, 0);
     let player = started.player;
-    answer::print(player.frame(bytes, places, 0));
+    print::answer(player.frame(bytes, places, 0));
 }
 
 // 128 times C0 FF in square 1.
-pub fn loops() {
+pub(crate) fn loops() {
     let mut bytes = [0u8; 16384];
     tables::put_tables(&mut bytes);
     tables::put(

@@ -1,5 +1,6 @@
 // Prints what the library makes of the samples that are not proved, and of the published examples.
 mod examples;
+mod print;
 mod straight;
 mod tables;
 

@@ -1,12 +1,12 @@
 // Straight reading and writing.
+use crate::print;
 use metroid_format::command::Kind;
 use metroid_format::words;
 use metroid_format::words::Reading;
 use metroid_format::words::Writing;
 
 fn print_word(word: u16) {
-    io::write_all(1, b" ");
-    io::print_hex(1, word as u64, 4);
+    print::hex(word as u64, 4);
 }
 
 fn print_words(list: &[u16], count: usize) {
@@ -74,14 +74,14 @@ fn show_list(list: &[u16]) {
 }
 
 // The triangle examples of document 001, each with an end, and the first without.
-pub fn published() {
+pub(crate) fn published() {
     show(b"\xca\xb0\x2a\x2a\x2a\x02\x02\xff\xb2\x34\x34\x00");
     show(b"\xca\xb0\x2a\x2a\x2a\x02\x02\xff\xb2\x34\x34");
     show(b"\xb0\x38\x3a\x00");
 }
 
 // Data as long as the limit, and longer.
-pub fn limits() {
+pub(crate) fn limits() {
     let mut ends = [0xffu8; 300];
     show_count(&ends);
     ends[256] = 0;
@@ -96,7 +96,7 @@ pub fn limits() {
 }
 
 // Lists as long as the limit, and longer.
-pub fn lists() {
+pub(crate) fn lists() {
     let mut rests = [0x0002u16; 258];
     rests[255] = 0;
     show_list(&rests[..256]);

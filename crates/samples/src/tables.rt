@@ -16,7 +16,7 @@ fn store_all(bytes: &mut [u8], values: &[u8]) {
 }
 
 // Puts values at an address.
-pub fn put(bytes: &mut [u8], address: usize, values: &[u8]) {
+pub(crate) fn put(bytes: &mut [u8], address: usize, values: &[u8]) {
     let at = bank::offset_of(address);
     if at < bytes.len() {
         store_all(&mut bytes[at..], values);
@@ -24,7 +24,7 @@ pub fn put(bytes: &mut [u8], address: usize, values: &[u8]) {
 }
 
 // Note lengths, and the five envelopes with their addresses.
-pub fn put_tables(bytes: &mut [u8]) {
+pub(crate) fn put_tables(bytes: &mut [u8]) {
     put(
         bytes,
         0xbef7,

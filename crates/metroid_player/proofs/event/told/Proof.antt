@@ -1,9 +1,9 @@
 use borrow.Author.Needs.{needs}
-use Rattle.hemgosling.proofs.play.event_words.Statement.{statement}
-use Rattle.hemgosling.proofs.play.event_words.Tie as tie
+use Rattle.metroid_player.proofs.event.told.Statement.{statement}
+use Rattle.metroid_player.proofs.event.told.Tie as tie
 
-pub event-words-spec : {M : Type 1} → statement M
-event-words-spec =
+pub told-spec : {M : Type 1} → statement M
+told-spec =
     tie.close
     (tie.spec
     (λ c κs. search needs)

@@ -1,0 +1,34 @@
+use borrow.Author.Needs.{needs}
+use Rattle.metroid_text.proofs.answer.event_numbers.Statement.{statement}
+use Rattle.metroid_text.proofs.answer.event_numbers.Tie as tie
+
+pub event-numbers-spec : {M : Type 1} → statement M
+event-numbers-spec =
+    tie.close
+    (tie.spec
+    (λ c κs. search needs)
+    (λ c. search needs)
+    (λ c. search needs)
+    (λ c. search needs)
+    (λ c. search needs)
+    (λ c κs. search needs)
+    (λ c. search needs)
+    (λ c. search needs)
+    (λ c. search needs)
+    (λ c. search needs)
+    (λ c. search needs)
+    (λ c. search needs)
+    (λ c κs. search needs)
+    (λ c. search needs)
+    (λ c. search needs)
+    (λ c. search needs)
+    (λ c. search needs)
+    (λ c. search needs)
+    (λ c. search needs)
+    (λ c. search needs)
+    (λ c. rw (c .before .sound .given .1, c .before .before .before .flag .ensures))
+    (λ c. rw (c .before .before .sound2 .given .1, c .before .before .before .before .flag .ensures, c .release-number .ensures))
+    (λ c. rw (c .enum-told2 .given .1, c .before .before .flag .ensures))
+    (λ c. rw (c .before .sound3 .given .1, c .before .before .before .flag .ensures))
+    (λ c. rw (c .before .before .sound4 .given .1, c .before .before .before .before .flag .ensures, c .release-number2 .ensures))
+    (λ c. rw (c .before .sound5 .given .1, c .before .before .before .flag .ensures)))

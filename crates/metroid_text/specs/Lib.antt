@@ -1,0 +1,4 @@
+pub mod Decimal
+pub mod Line
+pub mod Verdict
+pub mod Answer

@@ -1,0 +1,37 @@
+-- The lines of cuecheck.
+use Prim.Native.Nat.{ℕ, _+_, _*_}
+use mathlib.Core.List.{List, [], _∷_, _++_}
+use lib.ListN.{length}
+use Rattle.metroid_check.specs.declared.verdict.Verdict.{Verdict}
+use Rattle.metroid_text.specs.Decimal.{decimal}
+use Rattle.metroid_text.specs.Line.{space, newline, spaced, spaced-most}
+
+-- `pass`
+abbrev pub passWord : List ℕ
+passWord = 0x70 ∷ 0x61 ∷ 0x73 ∷ 0x73 ∷ []
+
+-- `refuse`
+abbrev pub refuseWord : List ℕ
+refuseWord = 0x72 ∷ 0x65 ∷ 0x66 ∷ 0x75 ∷ 0x73 ∷ 0x65 ∷ []
+
+-- a word, numbers and a newline
+abbrev pub sentence : List ℕ → List ℕ → List ℕ
+sentence word values = word ++ spaced values ++ newline
+
+-- `pass FRAME CHANNEL`, `refuse NO` or `refuse NO CHANNEL OFFSET FRAME`
+abbrev pub verdictText : Verdict → List ℕ
+verdictText (Verdict.Pass frame channel) = sentence passWord (frame ∷ channel ∷ [])
+verdictText (Verdict.Refused number) = sentence refuseWord (number ∷ [])
+verdictText (Verdict.Fault number channel at frame) = sentence refuseWord (number ∷ channel ∷ at ∷ frame ∷ [])
+
+-- behind the track
+abbrev pub verdictLine : ℕ → Verdict → List ℕ
+verdictLine track verdict = decimal track ++ space ++ verdictText verdict
+
+-- Below: only private contracts and laws use these.
+-- the most bytes of a word, so many numbers and a newline
+abbrev pub sentence-most : List ℕ → ℕ → ℕ
+sentence-most word n = length word + spaced-most * n + 1
+
+abbrev pub text-most : ℕ
+text-most = sentence-most refuseWord 4
