@@ -49,7 +49,7 @@ pub fn published_places(default1: u8, default2: u8) -> Places
 }
 
 // The offset of an address in the bank.
-pub fn offset_of(address: usize) -> usize
+pub(crate) fn offset_of(address: usize) -> usize
     ensures { λ r. ⌜ r ≡ offsetOf address ⌝ }
 {
     if BANK_START <= address {

@@ -1,6 +1,6 @@
 // The player's record, and what is refused of one.
-use metroid_format::channel::Cursor;
 use engine_base::time::Frames;
+use metroid_format::channel::Cursor;
 use metroid_format::command;
 use metroid_format::header::Voice;
 ghost use mathlib.Core.Path.{_≡_};

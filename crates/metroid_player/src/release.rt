@@ -1,7 +1,7 @@
 // How long a triangle note sounds.
+use engine_base::field;
 use engine_base::time::Frames;
 use engine_base::time::QuarterFrames;
-use engine_base::field;
 ghost use mathlib.Core.Path.{_≡_};
 ghost use Rattle.metroid_player.specs.Release.{dynamic, releaseOf, toldRelease};
 

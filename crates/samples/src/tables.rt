@@ -17,9 +17,11 @@ fn store_all(bytes: &mut [u8], values: &[u8]) {
 
 // Puts values at an address.
 pub(crate) fn put(bytes: &mut [u8], address: usize, values: &[u8]) {
-    let at = bank::offset_of(address);
-    if at < bytes.len() {
-        store_all(&mut bytes[at..], values);
+    if bank::BANK_START <= address {
+        let at = address - bank::BANK_START;
+        if at < bytes.len() {
+            store_all(&mut bytes[at..], values);
+        }
     }
 }
 

@@ -1,7 +1,7 @@
 -- The counts and the events of an answer.
 use Prim.Native.Nat.{ℕ, _+_, _≤_, _<_}
 use mathlib.Core.List.{List, [], _∷_, _++_}
-use mathlib.Core.Path.{_≡_, refl}
+use mathlib.Core.Path.{_≡_, refl, ap}
 use native.Mathlib.Omega.{arith}
 use lib.ListN.{length, getD}
 use Rattle.metroid_player.specs.Event.{toldEvent}
@@ -19,6 +19,10 @@ four (a ∷ b ∷ []) e = absurd (omega arith)
 four (a ∷ b ∷ c ∷ []) e = absurd (omega arith)
 four (a ∷ b ∷ c ∷ d ∷ []) e = refl
 four (a ∷ b ∷ c ∷ d ∷ x ∷ l) e = absurd (omega arith)
+
+pub five : (l : List ℕ) → length l ≡ 5 → getD l 0 0 ∷ getD l 1 0 ∷ getD l 2 0 ∷ getD l 3 0 ∷ getD l 4 0 ∷ [] ≡ l
+five [] e = absurd (omega arith)
+five (a ∷ l) e = ap (λ (rest : List ℕ). a ∷ rest) (four l (omega arith))
 
 module _ (events : List Event) (before : List ℕ) (at : ℕ) (now : List ℕ) (i next : ℕ)
     (all : length events ≡ 4) (p : Putting event-most eventText events before at now i next)

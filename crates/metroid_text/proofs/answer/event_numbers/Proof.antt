@@ -1,4 +1,6 @@
+use mathlib.Core.Path.{_∙_}
 use borrow.Author.Needs.{needs}
+use Rattle.metroid_text.proofs.answer.Laws.{five}
 use Rattle.metroid_text.proofs.answer.event_numbers.Statement.{statement}
 use Rattle.metroid_text.proofs.answer.event_numbers.Tie as tie
 
@@ -7,28 +9,9 @@ event-numbers-spec =
     tie.close
     (tie.spec
     (λ c κs. search needs)
-    (λ c. search needs)
-    (λ c. search needs)
-    (λ c. search needs)
-    (λ c. search needs)
-    (λ c κs. search needs)
-    (λ c. search needs)
-    (λ c. search needs)
-    (λ c. search needs)
-    (λ c. search needs)
-    (λ c. search needs)
-    (λ c. search needs)
-    (λ c κs. search needs)
-    (λ c. search needs)
-    (λ c. search needs)
-    (λ c. search needs)
-    (λ c. search needs)
-    (λ c. search needs)
-    (λ c. search needs)
-    (λ c. search needs)
-    (λ c. rw (c .before .sound .given .1, c .before .before .before .flag .ensures))
-    (λ c. rw (c .before .before .sound2 .given .1, c .before .before .before .before .flag .ensures, c .release-number .ensures))
-    (λ c. rw (c .enum-told2 .given .1, c .before .before .flag .ensures))
-    (λ c. rw (c .before .sound3 .given .1, c .before .before .before .flag .ensures))
-    (λ c. rw (c .before .before .sound4 .given .1, c .before .before .before .before .flag .ensures, c .release-number2 .ensures))
-    (λ c. rw (c .before .sound5 .given .1, c .before .before .before .flag .ensures)))
+    (λ c. search needs) (λ c. search needs)
+    (λ c. search needs) (λ c. search needs)
+    (λ c. search needs) (λ c. search needs)
+    (λ c. search needs) (λ c. search needs)
+    (λ c. search needs) (λ c. search needs)
+    (λ c. five _ (search needs) ∙ c .told .ensures))
