@@ -1,7 +1,7 @@
 -- A lent buffer that is filled, as far as the values fit.
 use Prim.Native.Nat.{ℕ, suc, _+_, _≤_, _<_}
 use mathlib.Core.List.{List, [], _∷_, _++_}
-use mathlib.Core.Path.{_≡_, refl, sym, _∙_}
+use mathlib.Core.Path.{_≡_, refl, _∙_}
 use native.Mathlib.Nat.{add-zero, add-suc, suc-add, add-assoc}
 use native.Mathlib.Numerals.{add-one}
 use native.Mathlib.Omega.{arith}
@@ -12,8 +12,8 @@ pub sets-append : (l : List ℕ) (i : ℕ) (vs ws : List ℕ) → sets l i (vs +
 sets-append l i [] ws = rw add-zero
 sets-append l i (v ∷ vs) ws = rw (add-suc i (length vs), ← suc-add i (length vs)) (sets-append (set l i v) (suc i) vs ws)
 
-pub kept : (a b c : List ℕ) → length a ≡ length b → length b ≡ length c → length a ≡ length c
-kept a b c p q = p ∙ q
+pub same-length : (a b c : List ℕ) → length a ≡ length b → length b ≡ length c → length a ≡ length c
+same-length a b c p q = p ∙ q
 
 -- with n values of the whole written, the rest is still to come
 pub record Written (before whole now : List ℕ) (n : ℕ) (rest : List ℕ) : Type 0 where

@@ -6,7 +6,6 @@ use mathlib.Core.Path.{_≡_, refl, sym, _∙_}
 use native.Mathlib.Omega.{arith}
 use borrow.Author.Tests.{eqb-true, eqb-false, le-leb}
 use lib.Dec.{eqb}
-use lib.ListN.{length}
 use Rattle.metroid_format.specs.Command.{data-limit, isNote}
 use Rattle.metroid_format.specs.Channel.{Source, channelSource, readUntil}
 use Rattle.metroid_format.specs.Timeline.{Walk}
@@ -19,7 +18,6 @@ use Rattle.metroid_format.specs.declared.header.Track.{Track}
 use Rattle.metroid_format.specs.declared.command.Finish.{Finish}
 use Rattle.metroid_format.specs.declared.channel.Cursor.{Cursor}
 use Rattle.metroid_format.specs.declared.channel.Stop.{Stop}
-use Rattle.metroid_format.specs.declared.channel.Until.{Until}
 use Rattle.metroid_player.specs.Record.{cursorOf, soundFits, channelFits}
 use Rattle.metroid_player.specs.Frame.{begun, oneOff, turnBy, turnOf}
 use Rattle.metroid_player.specs.declared.record.Channel.{Channel}
@@ -116,7 +114,7 @@ module _ (bank : List ℕ) (track : Track) where
         let until = readUntil data-limit source (cursorOf channel) in
         let read = reads source (data-limit / 2) 0 (source-within bank track voice) (cursorOf channel) (omega arith) (r .looped) in
         rw all
-        (turn-by channel (until .cursor) (until .count) (until .stop) (stop-holds source read)
+        (turn-by channel (until .cursor) (until .count) (until .stop) (stop-holds source data-limit (cursorOf channel))
         (until-within source data-limit (source-within bank track voice) (cursorOf channel) (r .within) .cursor)
         (reads-looped source 0 read (r .looped))
         (read-walk read (r .walk)))) λ z.

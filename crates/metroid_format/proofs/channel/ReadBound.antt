@@ -1,17 +1,19 @@
 -- How many commands one reading can take. Two bytes make at most 257: a begin, and an end of loop met 256 times.
 use Prim.Native.Nat.{ℕ, zero, suc, _+_, _-_, _*_, _/_, _%_, _≤_, _<_}
 use mathlib.Core.Bool.{Bool, true, false}
+use mathlib.Core.List.{List}
 use mathlib.Core.Path.{_≡_, refl}
 use native.Mathlib.Omega.{arith}
 use borrow.Author.Tests.{leb-true, leb-false, eqb-true, eqb-false, eq-eqb, ne-eqb}
 use lib.Dec.{leb, eqb}
-use lib.ListN.{length, getD, List·getD-eq-default}
+use lib.ListN.{length, getD, take, length-take, List·getD-eq-default}
 use Rattle.engine_base.specs.Pick.{pick}
-use Rattle.metroid_format.specs.Command.{isNote}
-use Rattle.metroid_format.specs.Channel.{Source, stepOf, readBy, readFrom, readUntil, fuelOf}
+use Rattle.metroid_format.specs.Command.{data-limit, isNote}
+use Rattle.metroid_format.specs.Channel.{Source, sourceOf, stepOf, readBy, readFrom, readUntil, fuelOf}
 use Rattle.engine_base.proofs.Picks.{by-test}
 use Rattle.metroid_format.proofs.channel.Stepped.{Stepped, begins, goes-on, goes-back, notes, ends, refuses, stepped}
 use Rattle.metroid_format.proofs.channel.ReadSteps.{ByCommand, again, note, end, refused}
+use Rattle.metroid_format.specs.declared.command.Kind.{Kind}
 use Rattle.metroid_format.specs.declared.channel.Cursor.{Cursor}
 use Rattle.metroid_format.specs.declared.channel.Step.{Step}
 use Rattle.metroid_format.specs.declared.channel.Stop.{Stop}
@@ -36,13 +38,36 @@ LoopedBy extra (Step.Note b cursor) = Looped extra cursor
 LoopedBy extra Step.End = Unit {0}
 LoopedBy extra (Step.Refused number at) = Unit {0}
 
--- what holds where reading stops
+-- what holds where reading stops: a note is one of the channel and longer than 0 frames, and the end counts
 abbrev pub StopHolds : Source → Cursor → ℕ → Stop → Type 0
 StopHolds source cursor count (Stop.Note b) = (0 < cursor .length .count) × (isNote (source .kind) b ≡ true)
 StopHolds source cursor count Stop.End = 0 < count
 StopHolds source cursor count (Stop.Refused number at) = Unit {0}
 
 module _ (source : Source) where
+  abbrev Holds : Until → Type 0
+  Holds until = StopHolds source (until .cursor) (until .count) (until .stop)
+
+  note-holds : {cursor after : Cursor} {b : ℕ} (count : ℕ) → Stepped source cursor (Step.Note b after) → StopHolds source after count (Stop.Note b)
+  note-holds count (notes b after frames h w l n) = (l, n)
+
+  read-holds : (fuel : ℕ) (cursor : Cursor) (count : ℕ) → Holds (readFrom source fuel cursor count)
+  unfolding readFrom
+  read-holds zero cursor count = tt
+  read-holds (suc fuel) cursor count = from (read-holds fuel) (stepOf source cursor) refl
+    where
+      from : ((d : Cursor) (n : ℕ) → Holds (readFrom source fuel d n)) →
+          (step : Step) → stepOf source cursor ≡ step → Holds (readBy (readFrom source fuel) cursor count step)
+      from further (Step.Again d) e = further d (count + 1)
+      from further (Step.Note b d) e = note-holds (count + 1) (rw e at (stepped source cursor))
+      from further Step.End e = omega arith
+      from further (Step.Refused number at) e = tt
+
+  -- from any cursor whatever
+  pub stop-holds : (limit : ℕ) (cursor : Cursor) → Holds (readUntil limit source cursor)
+  unfolding readUntil
+  stop-holds limit cursor = read-holds (fuelOf limit) cursor 0
+
   abbrev left : ℕ → ℕ
   left at = length (source .bytes) - at
 
@@ -167,18 +192,6 @@ module _ (source : Source) where
       omega (arith, stops _ (cursor .«loop_start») (cursor .counter) (end-there (rw e at (stepped source cursor))))
   reads-count {cursor} (refused e) = omega arith
 
-  -- a note is one of the channel and longer than 0 frames, and the end counts
-  note-holds : {cursor after : Cursor} {b : ℕ} → Stepped source cursor (Step.Note b after) →
-      (0 < after .length .count) × (isNote (source .kind) b ≡ true)
-  note-holds (notes b after frames h w l n) = (l, n)
-
-  pub stop-holds : {cursor : Cursor} {count : ℕ} {until : Until} → ByCommand source cursor count until →
-      StopHolds source (until .cursor) (until .count) (until .stop)
-  stop-holds (again e r) = stop-holds r
-  stop-holds {cursor} (note e) = note-holds (rw e at (stepped source cursor))
-  stop-holds (end e) = omega arith
-  stop-holds (refused e) = tt
-
   module _ (half extra : ℕ) (within : length (source .bytes) ≤ 2 * half) where
     again-limit : (start counter : ℕ) → 0 < half → counter ≤ 254 → 0 < start + extra → 1 + again-from start counter ≤ half * 257 + extra
     unfolding again-from
@@ -208,3 +221,11 @@ module _ (source : Source) where
     pub count-bound : (cursor : Cursor) → extra ≤ 1 → Looped extra cursor →
         (readUntil (2 * half) source cursor) .count ≤ half * 257 + extra
     count-bound cursor x p = omega (arith, reads-count (reads cursor x p), potential-limit cursor p)
+
+-- so of every call: whatever the data's length and the cursor, whose counter is a byte
+pub never-used-up : (kind : Kind) (bytes lengths : List ℕ) (window : ℕ) (cursor : Cursor) → cursor .counter ≤ 255 →
+    ByCommand (sourceOf kind (take data-limit bytes) lengths window) cursor 0
+    (readUntil data-limit (sourceOf kind (take data-limit bytes) lengths window) cursor)
+never-used-up kind bytes lengths window cursor b =
+    let within : length (take data-limit bytes) ≤ data-limit = rw length-take (omega arith) in
+    reads (sourceOf kind (take data-limit bytes) lengths window) (data-limit / 2) 1 within cursor (omega arith) (any-looped cursor b)

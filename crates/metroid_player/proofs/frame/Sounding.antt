@@ -10,17 +10,14 @@ use lib.ListN.{length, getD, set}
 use lib.Seq.{sets, length-sets}
 use Rattle.metroid_format.specs.Command.{data-limit}
 use Rattle.metroid_format.specs.Header.{unusedVoice}
-use Rattle.metroid_format.specs.Channel.{Source, channelSource, stepOf, readBy, readFrom, readUntil, fuelOf}
+use Rattle.metroid_format.specs.Channel.{channelSource, readUntil}
 use Rattle.engine_base.proofs.Picks.{by-test, false-true}
-use Rattle.metroid_format.proofs.channel.Stepped.{Stepped, notes, stepped}
-use Rattle.metroid_format.proofs.channel.ReadBound.{StopHolds}
+use Rattle.metroid_format.proofs.channel.ReadBound.{StopHolds, stop-holds}
 use Rattle.metroid_format.specs.declared.command.Kind.the-variants.{Melodic}
 use Rattle.metroid_format.specs.declared.header.Voice.{Voice}
 use Rattle.metroid_format.specs.declared.header.Track.{Track}
 use Rattle.metroid_format.specs.declared.channel.Cursor.{Cursor}
-use Rattle.metroid_format.specs.declared.channel.Step.{Step}
 use Rattle.metroid_format.specs.declared.channel.Stop.{Stop}
-use Rattle.metroid_format.specs.declared.channel.Until.{Until}
 use Rattle.metroid_player.specs.Record.{four, freshChannel, cursorOf, channelsFit}
 use Rattle.metroid_player.specs.Event.{offEvent, eventOf}
 use Rattle.metroid_player.specs.Frame.{oneOff, turnBy, turnOf, Settled, settleBy, settleTurn, settleFrom, framedBy, frameOfTrack, answerKind}
@@ -70,29 +67,9 @@ sets-at (x ∷ l) (a ∷ vs) (suc k) d h = rw (sets-cons a l 0 vs) (sets-at l vs
 not-events : (answer : Answer) → 0 < answerKind answer → answer ≡ Answer.Events → ⊥
 not-events answer h e = let same : answerKind answer ≡ 0 = ap answerKind e in omega arith
 
--- a note that reading stops at is longer than 0 frames, whatever the record
-module _ (source : Source) where
-  abbrev Holds : Until → Type 0
-  Holds until = StopHolds source (until .cursor) (until .count) (until .stop)
-
-  note-holds : {cursor after : Cursor} {b : ℕ} (count : ℕ) → Stepped source cursor (Step.Note b after) → StopHolds source after count (Stop.Note b)
-  note-holds count (notes b after frames h w l n) = (l, n)
-
-  read-holds : (fuel : ℕ) (cursor : Cursor) (count : ℕ) → Holds (readFrom source fuel cursor count)
-  unfolding readFrom
-  read-holds zero cursor count = tt
-  read-holds (suc fuel) cursor count = from (read-holds fuel) (stepOf source cursor) refl
-    where
-      from : ((d : Cursor) (n : ℕ) → Holds (readFrom source fuel d n)) →
-          (step : Step) → stepOf source cursor ≡ step → Holds (readBy (readFrom source fuel) cursor count step)
-      from further (Step.Again d) e = further d (count + 1)
-      from further (Step.Note b d) e = note-holds (count + 1) (rw e at (stepped source cursor))
-      from further Step.End e = omega arith
-      from further (Step.Refused number at) e = tt
-
 module _ (bank : List ℕ) (track : Track) where
   -- what a frame of events does in the i-th channel, a used one: the record before it, the event, the commands read, the record after it
-  pub record Played (i : ℕ) (voice : Voice) (before : Channel) (event : Event) (count : ℕ) (after : Channel) : Type 0 where
+  pub record Sounded (i : ℕ) (voice : Voice) (before : Channel) (event : Event) (count : ℕ) (after : Channel) : Type 0 where
     -- no frames left: a note begins, all of its length is left, which is above 0, and one frame is taken off
     pub begins : before .left .count ≡ 0 →
         (event ≡ eventOf bank track i voice (withLeft (after .length .count) after) true)
@@ -106,7 +83,7 @@ module _ (bank : List ℕ) (track : Track) where
   -- the k-th of the channels gone through, with what stands there before
   module _ (event : Event) (count : ℕ) (channel : Channel) where
     abbrev PlaysAt : ℕ → ℕ → Voice → Channel → Settled → Type 0
-    PlaysAt i k v c s = Played i v c (getD (s .events) k event) (getD (s .counts) k count) (getD (s .channels) k channel)
+    PlaysAt i k v c s = Sounded i v c (getD (s .events) k event) (getD (s .counts) k count) (getD (s .channels) k channel)
 
     abbrev FirstPlays : ℕ → Voice → Channel → Settled → Turn → Type 0
     FirstPlays i v c rest t =
@@ -120,7 +97,7 @@ module _ (bank : List ℕ) (track : Track) where
     by-stop i v c rest cursor n (Stop.Refused number at) z h e = absurd (not-events _ (omega arith) e)
 
     first-plays : (i : ℕ) (v : Voice) (c : Channel) (rest : Settled) → v .used ≡ true → FirstPlays i v c rest (turnOf bank track v c)
-    unfolding turnOf readUntil
+    unfolding turnOf
     first-plays i v c rest u =
         by-test (FirstPlays i v c rest) (v .used)
         (λ _.
@@ -128,7 +105,7 @@ module _ (bank : List ℕ) (track : Track) where
         (λ z.
         let source = channelSource bank track v in
         by-stop i v c rest _ _ (readUntil data-limit source (cursorOf c) .stop) (eqb-true _ _ z)
-        (read-holds source (fuelOf data-limit) (cursorOf c) 0)) λ z _.
+        (stop-holds source data-limit (cursorOf c))) λ z _.
         let some : c .left .count ≡ 0 → ⊥ = eqb-false _ _ z in
         record { begins = λ e. absurd (some e); goes-on = λ _. (refl, refl, refl); begun-then = λ t. absurd (false-true t) }) λ f.
         absurd (false-true (sym f ∙ u))
@@ -158,7 +135,7 @@ module _ (bank : List ℕ) (track : Track) where
     abbrev Plays : Framed → Type 0
     Plays f =
         f .answer ≡ Answer.Events →
-        Played k (voiceAt k (track .voices)) (channelAt k player) (eventAt k f) (countAt k f) (channelAt k (f .player)) × (length (f .player .channels) ≡ 4)
+        Sounded k (voiceAt k (track .voices)) (channelAt k player) (eventAt k f) (countAt k f) (channelAt k (f .player)) × (length (f .player .channels) ≡ 4)
 
     framed-plays : (s : Settled) (answer : Answer) →
         (answer ≡ Answer.Events →
@@ -230,7 +207,7 @@ module _ (bank : List ℕ) (track : Track) (player : Player) where
         frame-plays bank track k (after j) (b .one-of-four) (b .used) (four-after j (omega arith)) (b .events j (omega arith)) .1
 
     played : (j : ℕ) → j ≤ n → frame j .answer ≡ Answer.Events →
-        Played bank track k voice (channelAt k (after j)) (eventAt k (frame j)) (countAt k (frame j)) (channelAt k (after (suc j)))
+        Sounded bank track k voice (channelAt k (after j)) (eventAt k (frame j)) (countAt k (frame j)) (channelAt k (after (suc j)))
     played j m e = frame-plays bank track k (after j) (b .one-of-four) (b .used) (four-after j m) e .0
 
     first : (eventAt k (frame 0) ≡ eventOf bank track k voice (withLeft (n - 0) note) true) × (0 < n) × (note ≡ withLeft (n - 1) note)

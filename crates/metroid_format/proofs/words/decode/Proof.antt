@@ -2,7 +2,7 @@ use Prim.Native.Nat.{_-_}
 use native.Mathlib.Omega.{arith}
 use borrow.Author.Needs.{needs}
 use lib.ListN.{length}
-use Rattle.engine_base.proofs.Buffers.{kept}
+use Rattle.engine_base.proofs.Buffers.{same-length}
 use Rattle.metroid_format.proofs.command.Laws.{word-fits}
 use Rattle.metroid_format.proofs.words.Laws.{Midway, midway-none, midway-more, decodes-past, decodes-refused, decodes-end}
 use Rattle.metroid_format.proofs.words.decode.Statement.{statement}
@@ -30,7 +30,7 @@ decode-spec =
     (λ c κs. search needs)
     (λ c. omega arith)
     (λ c κs. search needs)
-    (λ c. search kept depth 8)
+    (λ c. search same-length depth 8)
     (λ c. search decodes-end depth 14)
     (λ c. omega arith)
     (λ c. search midway-more depth 14)

@@ -2,7 +2,7 @@ use Prim.Native.Nat.{_-_}
 use native.Mathlib.Omega.{arith}
 use borrow.Author.Needs.{needs}
 use lib.ListN.{length}
-use Rattle.engine_base.proofs.Buffers.{kept}
+use Rattle.engine_base.proofs.Buffers.{same-length}
 use Rattle.metroid_format.proofs.words.Laws.{Halfway, halfway-none, halfway-more, encodes-past, encodes-refused, encodes-end, bytes-fit}
 use Rattle.metroid_format.proofs.words.encode.Statement.{statement}
 use Rattle.metroid_format.proofs.words.encode.Tie as tie
@@ -31,7 +31,7 @@ encode-spec =
     (λ c. search bytes-fit depth 10)
     (λ c. omega arith)
     (λ c κs. search needs)
-    (λ c. search kept depth 8)
+    (λ c. search same-length depth 8)
     (λ c. search encodes-end depth 14)
     (λ c. omega arith)
     (λ c. search halfway-more depth 14)
