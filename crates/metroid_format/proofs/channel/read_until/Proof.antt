@@ -4,8 +4,7 @@ use native.Mathlib.Omega.{arith}
 use borrow.Author.Needs.{needs}
 use Rattle.metroid_format.specs.Command.{data-limit}
 use Rattle.metroid_format.specs.Channel.{sourceOf, fuelOf, readFrom, readUntil}
-use Rattle.engine_base.proofs.Picks.{answers}
-use Rattle.metroid_format.proofs.channel.ReadSteps.{read-turn, read-none}
+use Rattle.metroid_format.proofs.channel.ReadSteps.{read-turn, read-none, read-cut}
 use Rattle.metroid_format.proofs.channel.read_until.Statement.{statement}
 use Rattle.metroid_format.proofs.channel.read_until.Tie as tie
 
@@ -47,38 +46,39 @@ read-until-spec =
     (λ c. search needs)
     (λ c κs. search needs)
     (λ c.
-    rw (← (c .before .before .before .before .before .before .before .part .ensures))
-    (answers _ _ _
+    let p = c .before .before .before .before .before .before .before in
+    read-cut _ (p .before .before .before .args .bytes .now) _ _ _ _ _ (p .part .ensures)
     (c .stopped .ensures ∙
     read-turn _ _ _ fuel _ _ _
     (c .before .before .before .before .step-from .ensures)
     (c .before .before .step2 .given .1)
     (c .before .before .before .before .before .loop-test .taken)
-    (c .before .before .before .before .before .before .loop .inv .1))))
+    (c .before .before .before .before .before .before .loop .inv .1)))
     (λ c. search needs)
     (λ c. search needs)
     (λ c κs. search needs)
     (λ c.
-    rw (← (c .before .before .before .before .before .before .part .ensures))
-    (answers _ _ _
+    let p = c .before .before .before .before .before .before in
+    read-cut _ (p .before .before .before .args .bytes .now) _ _ _ _ _ (p .part .ensures)
     (c .stopped2 .ensures ∙
     read-turn _ _ _ fuel _ _ _
     (c .before .before .before .step-from .ensures)
     (c .before .enum-told .given .1)
     (c .before .before .before .before .loop-test .taken)
-    (c .before .before .before .before .before .loop .inv .1))))
+    (c .before .before .before .before .before .loop .inv .1)))
     (λ c. search needs)
     (λ c κs. search needs)
     (λ c.
-    rw (← (c .before .before .before .before .before .before .before .part .ensures))
-    (answers _ _ _
+    let p = c .before .before .before .before .before .before .before in
+    read-cut _ (p .before .before .before .args .bytes .now) _ _ _ _ _ (p .part .ensures)
     (c .stopped3 .ensures ∙
     read-turn _ _ _ fuel _ _ _
     (c .before .before .before .before .step-from .ensures)
     (c .before .before .step3 .given .1)
     (c .before .before .before .before .before .loop-test .taken)
-    (c .before .before .before .before .before .before .loop .inv .1))))
+    (c .before .before .before .before .before .before .loop .inv .1)))
     (λ c κs. search needs)
     (λ c.
-    rw (← (c .before .before .before .part .ensures))
-    (answers _ _ _ (c .stopped4 .ensures ∙ read-none _ _ _ _ _ (omega arith) (c .before .before .loop .inv .1)))))
+    let p = c .before .before .before in
+    read-cut _ (p .before .before .before .args .bytes .now) _ _ _ _ _ (p .part .ensures)
+    (c .stopped4 .ensures ∙ read-none _ _ _ _ _ (omega arith) (c .before .before .loop .inv .1))))
