@@ -1,27 +1,11 @@
 // A bank with the published tables.
+use engine_base::buffer;
 use metroid_format::bank;
-
-fn store(bytes: &mut [u8], at: usize, value: u8) {
-    if at < bytes.len() {
-        bytes[at] = value;
-    }
-}
-
-fn store_all(bytes: &mut [u8], values: &[u8]) {
-    let mut i: usize = 0;
-    while i < values.len() {
-        store(bytes, i, values[i]);
-        i += 1;
-    }
-}
 
 // Puts values at an address.
 pub(crate) fn put(bytes: &mut [u8], address: usize, values: &[u8]) {
     if bank::BANK_START <= address {
-        let at = address - bank::BANK_START;
-        if at < bytes.len() {
-            store_all(&mut bytes[at..], values);
-        }
+        buffer::fill8(bytes, address - bank::BANK_START, values);
     }
 }
 
