@@ -2,3 +2,6 @@ pub mod Pick
 pub mod Refusal
 pub mod Told
 pub mod Bytes
+pub mod Address
+pub mod Release
+pub mod Answer

@@ -1,7 +1,10 @@
 // What every music engine of the library stands on: lent bytes, fields of a byte, lengths of time, numbers of refusal, and
 // values written into lent buffers. Nothing here knows a format.
+pub mod address;
+pub mod answer;
 pub mod buffer;
 pub mod bytes;
 pub mod field;
 pub mod refusal;
+pub mod release;
 pub mod time;

@@ -3,7 +3,8 @@ use Prim.Native.Nat.{ℕ}
 use mathlib.Core.List.{List}
 use mathlib.Core.Path.{_≡_}
 use Rattle.metroid_format.specs.declared.bank.Places.{Places}
-use Rattle.metroid_player.specs.Frame.{startOf, frameOf, answerNumber, toldFramed}
+use Rattle.engine_base.specs.Answer.{answerNumber}
+use Rattle.metroid_player.specs.Frame.{startOf, frameOf, toldFramed}
 use Rattle.metroid_player.specs.declared.record.Player.{Player}
 use Rattle.metroid_player.specs.declared.frame.Framed.{Framed}
 use Rattle.hemgosling.specs.Tell.{Tells}

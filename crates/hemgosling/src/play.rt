@@ -1,16 +1,17 @@
 // Start and frame, for a host that lends its one record.
 use crate::places;
+use engine_base::answer;
+use engine_base::answer::Answer;
 use engine_base::buffer;
 use metroid_player::event;
 use metroid_player::event::Event;
-use metroid_player::frame;
-use metroid_player::frame::Answer;
 use metroid_player::frame::Started;
 use metroid_player::record::Player;
 ghost use mathlib.Core.Path.{_≡_};
 ghost use mathlib.Core.List.{_∷_, _++_};
 ghost use lib.Seq.{sets};
-ghost use Rattle.metroid_player.specs.Frame.{startOf, frameOf, answerKind, answerPlace, toldEvents, toldFramed, AnswerWithin};
+ghost use Rattle.engine_base.specs.Answer.{answerKind, answerPlace};
+ghost use Rattle.metroid_player.specs.Frame.{startOf, frameOf, toldEvents, toldFramed, AnswerWithin};
 ghost use Rattle.hemgosling.specs.Places.{placesOf};
 ghost use Rattle.hemgosling.specs.Play.{Starts, Steps, steppedOf};
 
@@ -62,7 +63,7 @@ fn put_answer(out: &mut [u32], answer: Answer, counts: [u32; 4], events: [Event;
     requires { ⌜ AnswerWithin 4 answer ⌝ }
     ensures { λ _. ⌜ now (out .exit) ≡ sets (now (out .entry)) 0 (answerKind answer ∷ counts ++ (answerPlace answer ++ toldEvents events)) ⌝ }
 {
-    buffer::fill32(out, 0, &[frame::kind_of(answer)]);
+    buffer::fill32(out, 0, &[answer::kind_of(answer)]);
     buffer::fill32(out, COUNTS, &counts);
     buffer::fill32(out, PLACE, &place_of(answer));
     put_events(out, events);
@@ -103,7 +104,7 @@ fn frame_into(
     let counts = framed.counts;
     let events = framed.events;
     let next = framed.player;
-    let number = frame::number_of(told);
+    let number = answer::number_of(told);
     put_answer(answer, told, counts, events);
     Stepped {
         number,

@@ -3,4 +3,3 @@ pub mod Found
 pub mod Run
 pub mod Demand3
 pub mod Passes
-pub mod Samples

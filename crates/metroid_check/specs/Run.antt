@@ -7,7 +7,7 @@ use Rattle.metroid_format.specs.declared.bank.Places.{Places}
 use Rattle.metroid_player.specs.Counts.{AtMost}
 use Rattle.metroid_player.specs.Frame.{startOf, frameOf}
 use Rattle.metroid_player.specs.declared.record.Player.{Player}
-use Rattle.metroid_player.specs.declared.frame.Answer.{Answer}
+use Rattle.engine_base.specs.declared.answer.Answer.{Answer}
 use Rattle.metroid_player.specs.declared.frame.Framed.{Framed}
 use Rattle.metroid_player.specs.declared.frame.Started.{Started}
 

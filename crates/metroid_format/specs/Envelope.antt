@@ -5,7 +5,7 @@ use mathlib.Core.List.{List, [], _∷_}
 use lib.Dec.{eqb}
 use lib.ListN.{take, drop}
 use Rattle.engine_base.specs.Pick.{pick, all}
-use Rattle.metroid_format.specs.Bank.{offsetOf, within}
+use Rattle.engine_base.specs.Address.{offsetOf, within}
 use Rattle.engine_base.specs.Bytes.{wordAt}
 
 -- F0 or FF stands in an envelope's bytes

@@ -7,7 +7,8 @@ use lib.ListN.{length, getD, take, drop}
 use Rattle.engine_base.specs.Pick.{pick, unless, all}
 use Rattle.engine_base.specs.Told.{Told}
 use Rattle.engine_base.specs.Refusal.{wrong-size, table-outside, no-track, header-outside, window-too-high, envelope-too-high, no-envelope-end, channel-outside, no-channel}
-use Rattle.metroid_format.specs.Bank.{bank-size, lengths-size, periods-size, presets-size, envelopes-size, offsetOf, within}
+use Rattle.engine_base.specs.Address.{offsetOf, within}
+use Rattle.metroid_format.specs.Bank.{bank-size, lengths-size, periods-size, presets-size, envelopes-size}
 use Rattle.engine_base.specs.Bytes.{wordAt}
 use Rattle.metroid_format.specs.Envelope.{envelopeAddress, envelopeEnds}
 use Rattle.metroid_format.specs.declared.command.Kind.{Kind}

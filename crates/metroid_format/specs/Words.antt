@@ -167,6 +167,11 @@ pub record Encodes (e : Encoded) (before : List ℕ) (count : ℕ) (valid : Bool
   pub judged : valid ≡ e .valid
   pub filled : after ≡ sets before 0 (e .bytes)
 
+-- the bytes of a word's command, 0 where it stands for none
+abbrev pub wordSize : Decoded → ℕ
+wordSize (Found c next) = next
+wordSize (Refused number at) = 0
+
 -- 10, 11 and 15: the refusals that a command's bytes can show
 pub data Unreadable : ℕ → Type 0 where
   is-10 : Unreadable invalid-command

@@ -1,13 +1,8 @@
-// A bank by address, and the places that the caller names.
+// The places that the caller names, and the sizes of what stands there.
 ghost use mathlib.Core.Path.{_≡_};
-ghost use Rattle.metroid_format.specs.Bank.{published, offsetOf, within};
+ghost use Rattle.metroid_format.specs.Bank.{published};
 
 pub const BANK_SIZE: usize = 16384;
-
-pub const BANK_START: usize = 0x8000;
-
-// The address after the last.
-pub const BANK_END: usize = 0xc000;
 
 // The sizes of the tables that all tracks share.
 pub const LENGTHS_SIZE: usize = 40;
@@ -46,30 +41,4 @@ pub fn published_places(default1: u8, default2: u8) -> Places
         default1,
         default2,
     }
-}
-
-// The offset of an address in the bank.
-pub(crate) fn offset_of(address: usize) -> usize
-    ensures { λ r. ⌜ r ≡ offsetOf address ⌝ }
-{
-    if BANK_START <= address {
-        return address - BANK_START;
-    }
-    0
-}
-
-// Whether n bytes from an address stand wholly within the bank.
-pub(crate) fn fits(address: usize, n: usize) -> bool
-    ensures { λ r. ⌜ r ≡ within address n ⌝ }
-{
-    if address < BANK_START {
-        return false;
-    }
-    if BANK_END < address {
-        return false;
-    }
-    if BANK_END - address < n {
-        return false;
-    }
-    true
 }

@@ -1,5 +1,5 @@
 // The envelopes of the squares.
-use crate::bank;
+use engine_base::address;
 use engine_base::bytes;
 ghost use mathlib.Core.Path.{_≡_};
 ghost use Prim.Native.Nat.{_<_};
@@ -31,7 +31,7 @@ pub(crate) fn address_of(bank: &[u8], table: u32, number: u8) -> u16
     requires { ⌜ 0 < number ⌝ }
     ensures { λ r. ⌜ r ≡ envelopeAddress (now (bank .entry)) table number ⌝ }
 {
-    let at = bank::offset_of(table as usize + 2 * (number as usize - 1));
+    let at = address::offset_of(table as usize + 2 * (number as usize - 1));
     bytes::word(bank, at)
 }
 
@@ -43,8 +43,8 @@ pub(crate) fn ends(bank: &[u8], table: u32, number: u8) -> bool
         return true;
     }
     let address = address_of(bank, table, number);
-    if !bank::fits(address as usize, 1) {
+    if !address::fits(address as usize, 1) {
         return false;
     }
-    shows_end(bytes::part(bank, bank::offset_of(address as usize), REACH))
+    shows_end(bytes::part(bank, address::offset_of(address as usize), REACH))
 }

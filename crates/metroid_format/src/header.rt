@@ -3,17 +3,17 @@ use crate::bank;
 use crate::bank::Places;
 use crate::command::Kind;
 use crate::envelope;
+use engine_base::address;
 use engine_base::bytes;
 use engine_base::refusal;
 ghost use mathlib.Core.Path.{_≡_};
-ghost use lib.ListN.{take, drop};
-ghost use Rattle.metroid_format.specs.Bank.{offsetOf};
+ghost use Rattle.engine_base.specs.Address.{offsetOf};
 ghost use Rattle.engine_base.specs.Bytes.{wordAt};
 ghost use Rattle.metroid_format.specs.Header.{
   tablesFit,
   placesFit,
   headerAddress,
-  header-size,
+  headerOf,
   windowFits,
   envelopeNumbersFit,
   squareEnds,
@@ -22,13 +22,12 @@ ghost use Rattle.metroid_format.specs.Header.{
   addressesFit,
   allUnused,
   headerNumber,
+  numberOf,
   unusedVoice,
   voiceOf,
   voicesOf,
   trackOf,
-  blankTrack,
   refusedTrack,
-  opened,
   openTrack,
   toldOpened,
 };
@@ -73,16 +72,16 @@ pub struct Opened {
 fn tables_fit(p: Places) -> bool
     ensures { λ r. ⌜ r ≡ tablesFit p ⌝ }
 {
-    if !bank::fits(p.note_lengths as usize, bank::LENGTHS_SIZE) {
+    if !address::fits(p.note_lengths as usize, bank::LENGTHS_SIZE) {
         return false;
     }
-    if !bank::fits(p.key_periods as usize, bank::PERIODS_SIZE) {
+    if !address::fits(p.key_periods as usize, bank::PERIODS_SIZE) {
         return false;
     }
-    if !bank::fits(p.noise_presets as usize, bank::PRESETS_SIZE) {
+    if !address::fits(p.noise_presets as usize, bank::PRESETS_SIZE) {
         return false;
     }
-    bank::fits(p.envelope_addresses as usize, bank::ENVELOPES_SIZE)
+    address::fits(p.envelope_addresses as usize, bank::ENVELOPES_SIZE)
 }
 
 fn places_fit(p: Places) -> bool
@@ -94,10 +93,10 @@ fn places_fit(p: Places) -> bool
     if 255 < p.track_count {
         return false;
     }
-    if !bank::fits(p.header_offsets as usize, p.track_count as usize) {
+    if !address::fits(p.header_offsets as usize, p.track_count as usize) {
         return false;
     }
-    if !bank::fits(p.header_block as usize, 1) {
+    if !address::fits(p.header_block as usize, 1) {
         return false;
     }
     tables_fit(p)
@@ -106,15 +105,16 @@ fn places_fit(p: Places) -> bool
 fn header_address(bank: &[u8], places: Places, track: u32) -> usize
     ensures { λ r. ⌜ r ≡ headerAddress (now (bank .entry)) places track ⌝ }
 {
-    let entry = bank::offset_of(places.header_offsets as usize + track as usize);
+    let entry = address::offset_of(places.header_offsets as usize + track as usize);
     places.header_block as usize + bytes::byte(bank, entry) as usize
 }
 
-// The header at an address.
-fn header_at(bank: &[u8], address: usize) -> &[u8]
-    ensures { λ r. ⌜ now r ≡ take header-size (drop (offsetOf address) (now (bank .entry))) ⌝ }
+// The header of a track.
+fn header_of(bank: &[u8], places: Places, track: u32) -> &[u8]
+    ensures { λ r. ⌜ now r ≡ headerOf (now (bank .entry)) places track ⌝ }
 {
-    bytes::part(bank, bank::offset_of(address), HEADER_SIZE)
+    let address = header_address(bank, places, track);
+    bytes::part(bank, address::offset_of(address), HEADER_SIZE)
 }
 
 // The top three bits of +0 are 0.
@@ -159,7 +159,7 @@ fn address_fits(header: &[u8], at: usize) -> bool
     if address == 0 {
         return true;
     }
-    bank::fits(address as usize, 1)
+    address::fits(address as usize, 1)
 }
 
 fn addresses_fit(header: &[u8]) -> bool
@@ -214,6 +214,29 @@ fn header_number(bank: &[u8], table: u32, header: &[u8]) -> u32
     0
 }
 
+// The first number of 1 to 9, or 0.
+fn number_of(bank: &[u8], places: Places, track: u32) -> u32
+    ensures { λ r. ⌜ r ≡ numberOf (now (bank .entry)) places track ⌝ }
+{
+    if bank.len() != bank::BANK_SIZE {
+        return refusal::WRONG_SIZE;
+    }
+    if !places_fit(places) {
+        return refusal::TABLE_OUTSIDE;
+    }
+    if places.track_count <= track {
+        return refusal::NO_TRACK;
+    }
+    if !address::fits(header_address(bank, places, track), HEADER_SIZE) {
+        return refusal::HEADER_OUTSIDE;
+    }
+    header_number(
+        bank,
+        places.envelope_addresses,
+        header_of(bank, places, track),
+    )
+}
+
 fn unused(kind: Kind) -> Voice
     ensures { λ r. ⌜ r ≡ unusedVoice kind ⌝ }
 {
@@ -230,7 +253,7 @@ fn unused(kind: Kind) -> Voice
 fn offset_word(address: u16) -> u16
     ensures { λ r. ⌜ r ≡ offsetOf address ⌝ }
 {
-    bank::offset_of(address as usize) as u16
+    address::offset_of(address as usize) as u16
 }
 
 // A channel by its address, its envelope number (0 for none) and its default ctrl 1 byte.
@@ -295,18 +318,18 @@ fn track_of(bank: &[u8], places: Places, header: &[u8]) -> Track
         window: bytes::byte(header, 0),
         restart: bytes::byte(header, 1) != 0,
         release: bytes::byte(header, 2),
-        lengths: bank::offset_of(places.note_lengths as usize),
-        periods: bank::offset_of(places.key_periods as usize),
-        presets: bank::offset_of(places.noise_presets as usize),
+        lengths: address::offset_of(places.note_lengths as usize),
+        periods: address::offset_of(places.key_periods as usize),
+        presets: address::offset_of(places.noise_presets as usize),
         voices,
     }
 }
 
-fn blank_track() -> Track
-    ensures { λ r. ⌜ r ≡ blankTrack ⌝ }
+fn refused(number: u32) -> Opened
+    ensures { λ r. ⌜ r ≡ refusedTrack number ⌝ }
 {
     let voice = unused(Kind::Melodic);
-    Track {
+    let track = Track {
         window: 0,
         restart: false,
         release: 0,
@@ -314,25 +337,7 @@ fn blank_track() -> Track
         periods: 0,
         presets: 0,
         voices: [voice; 4],
-    }
-}
-
-fn refused(number: u32) -> Opened
-    ensures { λ r. ⌜ r ≡ refusedTrack number ⌝ }
-{
-    let track = blank_track();
-    Opened { number, track }
-}
-
-// The track of a header, or the first number of 5 to 9.
-fn open_header(bank: &[u8], places: Places, header: &[u8]) -> Opened
-    ensures { λ r. ⌜ r ≡ opened (headerNumber (now (bank .entry)) (places .«envelope_addresses») (now (header .entry))) (trackOf (now (bank .entry)) places (now (header .entry))) ⌝ }
-{
-    let number = header_number(bank, places.envelope_addresses, header);
-    if number != 0 {
-        return refused(number);
-    }
-    let track = track_of(bank, places, header);
+    };
     Opened { number, track }
 }
 
@@ -340,18 +345,13 @@ fn open_header(bank: &[u8], places: Places, header: &[u8]) -> Opened
 pub fn open(bank: &[u8], places: Places, track: u32) -> Opened
     ensures { λ r. ⌜ Answers toldOpened r (openTrack (now (bank .entry)) places track) ⌝ }
 {
-    if bank.len() != bank::BANK_SIZE {
-        return refused(refusal::WRONG_SIZE);
+    let number = number_of(bank, places, track);
+    if number != 0 {
+        return refused(number);
     }
-    if !places_fit(places) {
-        return refused(refusal::TABLE_OUTSIDE);
+    let opened = track_of(bank, places, header_of(bank, places, track));
+    Opened {
+        number,
+        track: opened,
     }
-    if places.track_count <= track {
-        return refused(refusal::NO_TRACK);
-    }
-    let address = header_address(bank, places, track);
-    if !bank::fits(address, HEADER_SIZE) {
-        return refused(refusal::HEADER_OUTSIDE);
-    }
-    open_header(bank, places, header_at(bank, address))
 }

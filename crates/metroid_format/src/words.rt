@@ -1,6 +1,5 @@
 // Commands as 16-bit words: straight reading, which runs no loop, and writing.
 use crate::command;
-use crate::command::Command;
 use crate::command::DATA_LIMIT;
 use crate::command::Decoded;
 use crate::command::Finish;
@@ -9,11 +8,10 @@ use engine_base::buffer;
 use engine_base::bytes;
 use engine_base::refusal;
 ghost use mathlib.Core.Path.{_≡_};
-ghost use Prim.Native.Nat.{_+_, _<_, _^_};
 ghost use lib.ListN.{take};
 ghost use lib.Seq.{sets};
-ghost use Rattle.metroid_format.specs.Command.{data-limit, isEnd, wordOf};
-ghost use Rattle.metroid_format.specs.Words.{pair, commandOfWord, encoded, Encodes, Writes};
+ghost use Rattle.metroid_format.specs.Command.{data-limit};
+ghost use Rattle.metroid_format.specs.Words.{pair, commandOfWord, wordSize, encoded, Encodes, Writes};
 ghost use Rattle.metroid_format.specs.Words.{straight, Decodes, Reads};
 
 pub enum Reading {
@@ -31,6 +29,9 @@ pub enum Writing {
     NoRoom,
 }
 
+// The word of the end command.
+const END: u16 = 0;
+
 struct Decoding {
     count: usize,
     finish: Finish,
@@ -39,31 +40,6 @@ struct Decoding {
 struct Encoding {
     count: usize,
     valid: bool,
-}
-
-fn is_end(command: Command) -> bool
-    ensures { λ r. ⌜ r ≡ isEnd command ⌝ }
-{
-    match command {
-        Command::End => true,
-        Command::EndLoop => false,
-        Command::BeginLoop(_) => false,
-        Command::Length(_, _) => false,
-        Command::Note(_) => false,
-    }
-}
-
-fn word_of(command: Command) -> u16
-    requires { ⌜ wordOf command < 2 ^ 16 ⌝ }
-    ensures { λ r. ⌜ r ≡ wordOf command ⌝ }
-{
-    match command {
-        Command::End => 0x00,
-        Command::EndLoop => 0xff,
-        Command::BeginLoop(n) => 0xc0 + (n as u16),
-        Command::Length(l, note) => 0xb0 + (l as u16) + 256 * (note as u16),
-        Command::Note(b) => b as u16,
-    }
 }
 
 // The words of the data up to its end or first refusal, written as far as they fit.
@@ -80,10 +56,11 @@ fn decode(kind: Kind, bytes: &[u8], out: &mut [u16]) -> Decoding
                     finish: Finish::Refused(number, offset),
                 };
             }
-            Decoded::Found(command, next) => {
-                buffer::put16(out, n, word_of(command));
+            Decoded::Found(_, next) => {
+                let word = bytes::word(bytes::part(bytes, at, next - at), 0);
+                buffer::put16(out, n, word);
                 n += 1;
-                if is_end(command) {
+                if word == END {
                     return Decoding {
                         count: n,
                         finish: Finish::End,
@@ -99,20 +76,20 @@ fn decode(kind: Kind, bytes: &[u8], out: &mut [u16]) -> Decoding
     }
 }
 
-// The command that a word stands for, or 17 where reading never gives it.
-fn command_of(kind: Kind, word: u16) -> Decoded
-    ensures { λ r. ⌜ r ≡ commandOfWord kind word ⌝ }
+// The bytes of the command that a word stands for, or 0 where reading never gives it.
+fn size_of(kind: Kind, word: u16) -> usize
+    ensures { λ r. ⌜ r ≡ wordSize (commandOfWord kind word) ⌝ }
 {
     let low = (word % 256) as u8;
     let high = (word / 256) as u8;
     let bytes = [low, high];
     match command::command_at(kind, &bytes, 0) {
-        Decoded::Refused(_, _) => Decoded::Refused(refusal::INVALID_WORD, 0),
-        Decoded::Found(command, next) => {
-            if word_of(command) == word {
-                Decoded::Found(command, next)
+        Decoded::Refused(_, _) => 0,
+        Decoded::Found(_, next) => {
+            if bytes::word(bytes::part(&bytes, 0, next), 0) == word {
+                next
             } else {
-                Decoded::Refused(refusal::INVALID_WORD, 0)
+                0
             }
         }
     }
@@ -120,17 +97,12 @@ fn command_of(kind: Kind, word: u16) -> Decoded
 
 // The first of a word's two bytes, or both.
 fn put_pair(out: &mut [u8], at: usize, word: u16, count: usize)
-    requires { ⌜ at + 1 < 2 ^ 64 ⌝ }
     ensures { λ _. ⌜ now (out .exit) ≡ sets (now (out .entry)) at (take count (pair word)) ⌝ }
 {
-    if count == 0 {
-        return;
-    }
-    buffer::put8(out, at, (word % 256) as u8);
-    if count == 1 {
-        return;
-    }
-    buffer::put8(out, at + 1, (word / 256) as u8);
+    let low = (word % 256) as u8;
+    let high = (word / 256) as u8;
+    let bytes = [low, high];
+    buffer::fill8(out, at, bytes::part(&bytes, 0, count));
 }
 
 // The bytes of the words up to the first that is refused, written as far as they fit.
@@ -141,24 +113,21 @@ fn encode(kind: Kind, words: &[u16], out: &mut [u8]) -> Encoding
     let mut n: usize = 0;
     while i < words.len() {
         let word = words[i];
-        match command_of(kind, word) {
-            Decoded::Refused(_, _) => {
-                return Encoding {
-                    count: n,
-                    valid: false,
-                };
-            }
-            Decoded::Found(command, next) => {
-                put_pair(out, n, word, next);
-                n += next;
-                i += 1;
-                if is_end(command) {
-                    return Encoding {
-                        count: n,
-                        valid: i == words.len(),
-                    };
-                }
-            }
+        let size = size_of(kind, word);
+        if size == 0 {
+            return Encoding {
+                count: n,
+                valid: false,
+            };
+        }
+        put_pair(out, n, word, size);
+        n += size;
+        i += 1;
+        if word == END {
+            return Encoding {
+                count: n,
+                valid: i == words.len(),
+            };
         }
     }
     Encoding {

@@ -11,10 +11,11 @@ use Rattle.metroid_format.specs.declared.command.Kind.{Kind}
 use Rattle.metroid_format.specs.declared.command.Kind.the-variants.{Melodic, Noise as NoiseKind}
 use Rattle.metroid_format.specs.declared.header.Voice.{Voice}
 use Rattle.metroid_format.specs.declared.header.Track.{Track}
-use Rattle.metroid_player.specs.Release.{releaseOf, toldRelease}
+use Rattle.engine_base.specs.Release.{toldRelease}
+use Rattle.metroid_player.specs.Release.{releaseOf}
 use Rattle.metroid_player.specs.Ctrl1.{silent, ctrl1At}
 use Rattle.metroid_player.specs.declared.record.Channel.{Channel}
-use Rattle.metroid_player.specs.declared.release.Release.the-variants.{After}
+use Rattle.engine_base.specs.declared.release.Release.the-variants.{After}
 use Rattle.metroid_player.specs.declared.event.Sound.{Sound}
 use Rattle.metroid_player.specs.declared.event.Sound.the-variants.{Off, SquareRest, TriangleRest, NoiseRest, Square, Triangle, Noise}
 use Rattle.metroid_player.specs.declared.event.Event.{Event}

@@ -6,6 +6,7 @@ use lib.Dec.{eqb}
 use lib.Seq.{sets}
 use Rattle.engine_base.specs.Pick.{pick}
 use Rattle.engine_base.specs.Told.{Told}
+use Rattle.engine_base.specs.Answer.{answerNumber, answerKind, answerPlace}
 use Rattle.engine_base.specs.Refusal.{invalid-record, Unopened, FaultWithin}
 use Rattle.metroid_format.specs.Command.{data-limit}
 use Rattle.metroid_format.specs.Header.{openTrack}
@@ -23,7 +24,7 @@ use Rattle.metroid_player.specs.declared.record.Player.{Player}
 use Rattle.metroid_player.specs.declared.event.Event.{Event}
 use Rattle.metroid_player.specs.declared.frame.Turned.{Turned}
 use Rattle.metroid_player.specs.declared.frame.Turn.{Turn}
-use Rattle.metroid_player.specs.declared.frame.Answer.{Answer}
+use Rattle.engine_base.specs.declared.answer.Answer.{Answer}
 use Rattle.metroid_player.specs.declared.frame.Framed.{Framed}
 use Rattle.metroid_player.specs.declared.frame.Started.{Started}
 
@@ -149,29 +150,6 @@ frameOf bank places track player =
 
 unfoldable pub startOf : List ℕ → Places → ℕ → Started
 startOf bank places track = record { number = openTrack bank places track .number; player = freshPlayer }
-
-abbrev pub answerNumber : Answer → ℕ
-answerNumber Answer.Events = 0
-answerNumber Answer.End = 0
-answerNumber Answer.Stopped = 0
-answerNumber (Answer.Refused number) = number
-answerNumber (Answer.Fault number i at) = number
-
--- 0 events, 1 end, 2 stopped, 3 refused
-abbrev pub answerKind : Answer → ℕ
-answerKind Answer.Events = 0
-answerKind Answer.End = 1
-answerKind Answer.Stopped = 2
-answerKind (Answer.Refused number) = 3
-answerKind (Answer.Fault number i at) = 3
-
--- channel and offset of a refusal 10 to 15, else 0
-abbrev pub answerPlace : Answer → List ℕ
-answerPlace Answer.Events = 0 ∷ 0 ∷ []
-answerPlace Answer.End = 0 ∷ 0 ∷ []
-answerPlace Answer.Stopped = 0 ∷ 0 ∷ []
-answerPlace (Answer.Refused number) = 0 ∷ 0 ∷ []
-answerPlace (Answer.Fault number i at) = i ∷ at ∷ []
 
 abbrev pub toldEvents : List Event → List ℕ
 toldEvents [] = []

@@ -2,8 +2,8 @@
 use crate::ctrl1;
 use crate::record::Channel;
 use crate::release;
-use crate::release::Release;
 use engine_base::bytes;
+use engine_base::release::Release;
 use engine_base::time::Frames;
 use engine_base::time::QuarterFrames;
 use metroid_format::bank;
@@ -15,7 +15,7 @@ ghost use mathlib.Core.Path.{_≡_};
 ghost use Prim.Native.Nat.{_-_};
 ghost use Rattle.metroid_player.specs.Event.{offEvent, periodAt, envelopeOf, melodicRest, noteCtrl1, melodicNote, noiseSound, soundOf, eventOf, toldEvent};
 ghost use Rattle.engine_base.specs.Pick.{pick};
-ghost use Rattle.metroid_player.specs.Release.{toldRelease};
+ghost use Rattle.engine_base.specs.Release.{toldRelease};
 
 pub enum Sound {
     Off,
@@ -174,7 +174,7 @@ pub(crate) fn event_of(
 fn release_word(release: Release) -> u32
     ensures { λ r. ⌜ r ≡ toldRelease release ⌝ }
 {
-    release::quarter_frames(release) as u32
+    engine_base::release::quarter_frames(release) as u32
 }
 
 fn flag(b: bool) -> u32

@@ -4,6 +4,7 @@ use crate::event::Event;
 use crate::record;
 use crate::record::Channel;
 use crate::record::Player;
+use engine_base::answer::Answer;
 use engine_base::bytes;
 use engine_base::refusal;
 use engine_base::time::Frames;
@@ -23,7 +24,7 @@ ghost use Prim.Native.Nat.{_≤_};
 ghost use Rattle.metroid_format.specs.Command.{data-limit};
 ghost use Rattle.metroid_format.specs.Channel.{channelSource, readUntil};
 ghost use Rattle.metroid_player.specs.Record.{cursorOf, channelFits, channelsFit};
-ghost use Rattle.metroid_player.specs.Frame.{begun, oneOff, turnOfUntil, turnOf, eventless, settleFrom, framed, frameOfTrack, frameOf, startOf, answerNumber, answerKind, toldFramed, toldStarted};
+ghost use Rattle.metroid_player.specs.Frame.{begun, oneOff, turnOfUntil, turnOf, eventless, settleFrom, framed, frameOfTrack, frameOf, startOf, toldFramed, toldStarted};
 ghost use Rattle.engine_base.specs.Told.{Answers};
 
 // What a channel does in a frame.
@@ -44,16 +45,6 @@ pub struct Turn {
     pub channel: Channel,
     // commands read
     pub count: u32,
-}
-
-pub enum Answer {
-    Events,
-    End,
-    Stopped,
-    // 1 to 9 and 16
-    Refused(u32),
-    // 10 to 15, the channel and the offset of the byte
-    Fault(u32, usize, usize),
 }
 
 pub struct Framed {
@@ -272,32 +263,6 @@ fn frame_of_track(bank: &[u8], track: Track, player: Player) -> Framed
         return without_events(Answer::Stopped, none, player);
     }
     without_events(Answer::Refused(refusal::INVALID_RECORD), none, player)
-}
-
-// The refusal of an answer, or 0.
-pub fn number_of(answer: Answer) -> u32
-    ensures { λ r. ⌜ r ≡ answerNumber answer ⌝ }
-{
-    match answer {
-        Answer::Events => 0,
-        Answer::End => 0,
-        Answer::Stopped => 0,
-        Answer::Refused(number) => number,
-        Answer::Fault(number, _, _) => number,
-    }
-}
-
-// 0 events, 1 end, 2 stopped, 3 refused.
-pub fn kind_of(answer: Answer) -> u32
-    ensures { λ r. ⌜ r ≡ answerKind answer ⌝ }
-{
-    match answer {
-        Answer::Events => 0,
-        Answer::End => 1,
-        Answer::Stopped => 2,
-        Answer::Refused(_) => 3,
-        Answer::Fault(_, _, _) => 3,
-    }
 }
 
 impl Player {

@@ -3,4 +3,4 @@ mod ctrl1;
 pub mod event;
 pub mod frame;
 pub mod record;
-pub mod release;
+mod release;

@@ -2,9 +2,9 @@
 use Prim.Native.Nat.{ℕ, _+_, _*_}
 use mathlib.Core.List.{List, [], _∷_, _++_}
 use Rattle.metroid_player.specs.Event.{toldEvent}
-use Rattle.metroid_player.specs.Frame.{answerNumber, answerKind, answerPlace}
+use Rattle.engine_base.specs.Answer.{answerNumber, answerKind, answerPlace}
 use Rattle.metroid_player.specs.declared.event.Event.{Event}
-use Rattle.metroid_player.specs.declared.frame.Answer.{Answer}
+use Rattle.engine_base.specs.declared.answer.Answer.{Answer}
 use Rattle.metroid_player.specs.declared.frame.Framed.{Framed}
 use Rattle.metroid_text.specs.Decimal.{decimal, digits-most}
 use Rattle.metroid_text.specs.Line.{newline, each, spaced, spaced-most}

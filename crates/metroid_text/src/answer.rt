@@ -1,16 +1,16 @@
 // A frame's answer as a line.
 use crate::decimal;
 use crate::line;
+use engine_base::answer;
+use engine_base::answer::Answer;
 use metroid_player::event;
 use metroid_player::event::Event;
-use metroid_player::frame;
-use metroid_player::frame::Answer;
 use metroid_player::frame::Framed;
 ghost use mathlib.Core.Path.{_≡_};
 ghost use Prim.Native.Nat.{_+_, _<_, _^_};
 ghost use lib.ListN.{length};
 ghost use Rattle.metroid_player.specs.Event.{toldEvent};
-ghost use Rattle.metroid_player.specs.Frame.{answerPlace};
+ghost use Rattle.engine_base.specs.Answer.{answerPlace};
 ghost use Rattle.metroid_text.specs.Line.{each, Spells, Puts};
 ghost use Rattle.metroid_text.specs.Answer.{afterBar, refusalAndKind, eventText, answerLine, kind-most, group-most, events-most};
 
@@ -63,8 +63,8 @@ fn put_group(numbers: &[u64], out: &mut [u8], at: usize) -> usize
 fn put_kind(answer: Answer, out: &mut [u8]) -> usize
     ensures { λ r. ⌜ Puts kind-most (refusalAndKind answer) (now (out .entry)) 0 r (now (out .exit)) ⌝ }
 {
-    let next = decimal::put(frame::number_of(answer) as u64, out, 0);
-    decimal::spaced(&[frame::kind_of(answer) as u64], out, next)
+    let next = decimal::put(answer::number_of(answer) as u64, out, 0);
+    decimal::spaced(&[answer::kind_of(answer) as u64], out, next)
 }
 
 fn put_events(events: [Event; 4], out: &mut [u8], at: usize) -> usize

@@ -1,6 +1,7 @@
 // The published examples of document 001, and the most commands in a frame. Each bank has one track.
 use crate::print;
 use crate::tables;
+use engine_base::release;
 use metroid_check::verdict;
 use metroid_check::verdict::Verdict;
 use metroid_format::bank;
@@ -11,7 +12,6 @@ use metroid_player::event::Event;
 use metroid_player::event::Sound;
 use metroid_player::frame::Framed;
 use metroid_player::record::Player;
-use metroid_player::release;
 
 const HEADER: usize = 0xbd31;
 

@@ -1,11 +1,11 @@
 // A bank with the published tables.
+use engine_base::address;
 use engine_base::buffer;
-use metroid_format::bank;
 
 // Puts values at an address.
 pub(crate) fn put(bytes: &mut [u8], address: usize, values: &[u8]) {
-    if bank::BANK_START <= address {
-        buffer::fill8(bytes, address - bank::BANK_START, values);
+    if address::BANK_START <= address {
+        buffer::fill8(bytes, address - address::BANK_START, values);
     }
 }
 

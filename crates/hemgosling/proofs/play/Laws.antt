@@ -12,10 +12,11 @@ use Rattle.engine_base.specs.Refusal.{FaultWithin}
 use Rattle.metroid_format.specs.Command.{data-limit}
 use Rattle.engine_base.proofs.Buffers.{sets-append}
 use Rattle.metroid_player.specs.Event.{toldEvent}
-use Rattle.metroid_player.specs.Frame.{answerKind, answerPlace, toldEvents, AnswerWithin}
+use Rattle.engine_base.specs.Answer.{answerKind, answerPlace}
+use Rattle.metroid_player.specs.Frame.{toldEvents, AnswerWithin}
 use Rattle.metroid_player.specs.declared.event.Event.{Event}
 use Rattle.metroid_player.specs.declared.event.Sound.{Sound}
-use Rattle.metroid_player.specs.declared.frame.Answer.{Answer}
+use Rattle.engine_base.specs.declared.answer.Answer.{Answer}
 use Rattle.hemgosling.proofs.Sizes.{channel-fits, offset-fits}
 
 module _ (a : Answer) (number channel at : ℕ) (e : a ≡ Answer.Fault number channel at) (p : AnswerWithin 4 a) where

@@ -10,7 +10,7 @@ use Rattle.metroid_player.specs.Record.{endedPlayer}
 use Rattle.metroid_check.specs.Run.{lastCounted}
 use Rattle.metroid_player.specs.Frame.{frameOfTrack}
 use Rattle.metroid_player.specs.declared.record.Player.{Player}
-use Rattle.metroid_player.specs.declared.frame.Answer.{Answer}
+use Rattle.engine_base.specs.declared.answer.Answer.{Answer}
 use Rattle.metroid_player.specs.declared.frame.Framed.{Framed}
 use Rattle.metroid_check.proofs.ahead.Framing.{InRun, FrameOfRun, events, ends, faults, frame-of-run}
 use Rattle.metroid_check.proofs.ahead.Settling.{Ahead, nothing, stop, Nearer, Due}

@@ -18,7 +18,7 @@ use Rattle.metroid_check.specs.Run.{lastFrom, lastCounted}
 use Rattle.metroid_player.specs.Frame.{Settled, framed, frameOfTrack}
 use Rattle.metroid_player.specs.declared.record.Player.{Player}
 use Rattle.metroid_player.specs.declared.event.Event.{Event}
-use Rattle.metroid_player.specs.declared.frame.Answer.{Answer}
+use Rattle.engine_base.specs.declared.answer.Answer.{Answer}
 use Rattle.metroid_player.specs.declared.frame.Framed.{Framed}
 use Rattle.metroid_player.proofs.frame.Counts.{none-most, frame-counts}
 use Rattle.metroid_check.proofs.ahead.Settling.{

@@ -15,7 +15,7 @@ use Rattle.metroid_player.specs.declared.record.Channel.{Channel}
 use Rattle.metroid_player.specs.declared.event.Event.{Event}
 use Rattle.metroid_player.specs.declared.frame.Turned.{Turned}
 use Rattle.metroid_player.specs.declared.frame.Turn.{Turn}
-use Rattle.metroid_player.specs.declared.frame.Answer.{Answer}
+use Rattle.engine_base.specs.declared.answer.Answer.{Answer}
 use Rattle.metroid_player.proofs.frame.Counts.{AllLooped}
 use Rattle.metroid_check.proofs.ahead.Running.{unused-fits, turn-unused, Running, running-fits, Turns, turns}
 

@@ -20,7 +20,7 @@ use Rattle.metroid_format.specs.declared.command.Finish.{Finish}
 use Rattle.metroid_player.specs.Record.{freshChannel, freshPlayer, endedPlayer}
 use Rattle.metroid_player.specs.Frame.{unplayed, frameOfTrack, frameOf}
 use Rattle.metroid_player.specs.declared.record.Player.{Player}
-use Rattle.metroid_player.specs.declared.frame.Answer.{Answer}
+use Rattle.engine_base.specs.declared.answer.Answer.{Answer}
 use Rattle.metroid_check.proofs.ahead.Running.{Running}
 use Rattle.metroid_check.proofs.ahead.Settling.{Ahead, nothing, stop, AllRunning, all-fit}
 use Rattle.metroid_check.proofs.ahead.Framing.{InRun}

@@ -1,14 +1,18 @@
 -- What stands where a command is found, and the other way round.
-use Prim.Native.Nat.{ℕ, _+_, _/_, _%_, _≤_, _<_, _^_, max}
+use Prim.Native.Nat.{ℕ, suc, _+_, _-_, _*_, _/_, _%_, _≤_, _<_, max}
 use mathlib.Core.Bool.{true}
 use mathlib.Core.List.{List}
 use mathlib.Core.Path.{_≡_, refl, sym, subst, _∙_}
+use native.Mathlib.Nat.{add-zero}
+use native.Mathlib.Numerals.{add-one}
 use native.Mathlib.Omega.{arith}
-use borrow.Author.Tests.{eqb-true, eqb-false, leb-true, leb-false, lt-leb}
-use lib.Dec.{leb, eqb, lit<}
-use lib.ListN.{length, getD}
+use borrow.Author.Tests.{eqb-true, eqb-false, leb-true, leb-false, lt-leb, ne-eqb}
+use lib.Dec.{leb, eqb}
+use lib.ListN.{length, getD, take, drop}
+use lib.Seq.{drop-cons}
+use Rattle.engine_base.specs.Bytes.{wordAt}
 use Rattle.engine_base.specs.Refusal.{FaultWithin}
-use Rattle.metroid_format.specs.Command.{commandAt, commandOf, noteAfter, isKey, isPreset, isNote, wordOf}
+use Rattle.metroid_format.specs.Command.{commandAt, commandOf, noteAfter, isKey, isPreset, isNote, wordOf, isEnd}
 use Rattle.metroid_format.specs.declared.command.Kind.{Kind}
 use Rattle.metroid_format.specs.declared.command.Kind.the-variants.{Melodic, Noise}
 use Rattle.metroid_format.specs.declared.command.Command.{Command}
@@ -49,13 +53,6 @@ note-small Noise b y =
     (λ _. by-test (λ x. x ≡ true → b < 0x80) (eqb b 0x07) (λ e _. omega (arith, eqb-true b 0x07 e))
     (λ _ z. omega (arith, eqb-true b 0x0a z)))) y
 
-fits : {kind : Kind} {bytes : List ℕ} {at : ℕ} {c : Command} {next : ℕ} → Stands kind bytes at c next → wordOf c < 2 ^ 16
-fits (is-end h e) = lit< tt
-fits (is-end-loop h e) = lit< tt
-fits (is-begin n s h e) = omega arith
-fits {kind} (is-length l note s y h e g) = omega (arith, note-small kind note y)
-fits (is-note b p s y h e) = omega arith
-
 pub next-after : {kind : Kind} {bytes : List ℕ} {at : ℕ} {c : Command} {next : ℕ} → Stands kind bytes at c next → at < next
 next-after (is-end h e) = omega arith
 next-after (is-end-loop h e) = omega arith
@@ -69,6 +66,36 @@ next-within (is-end-loop h e) = omega arith
 next-within (is-begin n s h e) = omega arith
 next-within (is-length l note s y h e g) = omega arith
 next-within (is-note b p s y h e) = omega arith
+
+one-byte : (bytes : List ℕ) (at : ℕ) → at < length bytes → wordAt (take (at + 1 - at) (drop at bytes)) 0 ≡ getD bytes at 0
+unfolding wordAt
+one-byte bytes at h =
+    let n : at + 1 - at ≡ 1 = omega arith in
+    rw (n, drop-cons bytes at 0 h) (add-zero (getD bytes at 0))
+
+two-bytes : (bytes : List ℕ) (at : ℕ) → at + 1 < length bytes → wordAt (take (at + 1 + 1 - at) (drop at bytes)) 0 ≡ getD bytes at 0 + 256 * getD bytes (at + 1) 0
+unfolding wordAt
+two-bytes bytes at h =
+    let n : at + 1 + 1 - at ≡ 2 = omega arith in
+    let i : at < length bytes = omega arith in
+    let j : suc at < length bytes = omega arith in
+    rw (n, drop-cons bytes at 0 i, drop-cons bytes (suc at) 0 j, ← add-one at)
+
+-- a command's word is that of its bytes
+pub word-there : {kind : Kind} {bytes : List ℕ} {at : ℕ} {c : Command} {next : ℕ} → Stands kind bytes at c next → wordAt (take (next - at) (drop at bytes)) 0 ≡ wordOf c
+word-there (is-end h e) = one-byte _ _ h ∙ e
+word-there (is-end-loop h e) = one-byte _ _ h ∙ e
+word-there (is-begin n s h e) = one-byte _ _ h ∙ e
+word-there (is-length l note s y h e g) = two-bytes _ _ h ∙ rw (e, g)
+word-there (is-note b p s y h e) = one-byte _ _ h ∙ e
+
+-- only the end command has the word 0
+pub end-word : {kind : Kind} {bytes : List ℕ} {at : ℕ} {c : Command} {next : ℕ} → Stands kind bytes at c next → isEnd c ≡ eqb (wordOf c) 0
+end-word (is-end h e) = refl
+end-word (is-end-loop h e) = refl
+end-word (is-begin n s h e) = sym (ne-eqb (0xc0 + n) 0 (λ z. omega arith))
+end-word (is-length l note s y h e g) = sym (ne-eqb (0xb0 + l + 256 * note) 0 (λ z. omega arith))
+end-word (is-note b p s y h e) = sym (ne-eqb b 0 (λ z. omega arith))
 
 module _ (kind : Kind) (bytes : List ℕ) (at : ℕ) where
   after-right : at < length bytes → getD bytes at 0 / 16 ≡ 0x0b → Right kind bytes at (noteAfter kind bytes (at + 1) (getD bytes at 0 % 16))
@@ -136,5 +163,5 @@ module _ (kind : Kind) (bytes : List ℕ) (at : ℕ) where
     standing : Stands kind bytes at c next
     standing = found (sym q ∙ e)
 
-    pub word-fits : wordOf c < 2 ^ 16
-    word-fits = fits standing
+    pub goes-on : at ≤ next
+    goes-on = omega (arith, next-after standing)

@@ -21,7 +21,8 @@ use Rattle.engine_base.specs.Refusal.{
   no-channel,
   Unopened,
 }
-use Rattle.metroid_format.specs.Bank.{bank-size, bank-start, bank-end, offsetOf, within}
+use Rattle.engine_base.specs.Address.{bank-start, bank-end, offsetOf, within}
+use Rattle.metroid_format.specs.Bank.{bank-size}
 use Rattle.engine_base.specs.Pick.{all}
 use Rattle.metroid_format.specs.Envelope.{envelopeAddress}
 use Rattle.metroid_format.specs.Header.{

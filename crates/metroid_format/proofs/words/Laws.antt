@@ -11,10 +11,11 @@ use mir.Syntax.{w64}
 use mir.Val.{Fits}
 use lib.Dec.{eqb, eqb·zero-suc, eqb·suc-zero, eqb·suc-suc}
 use lib.ListN.{length, getD, set, take, drop, drop-of-length-le}
-use lib.Seq.{sets, take-all, drop-cons, length-take-le}
-use Rattle.engine_base.specs.Refusal.{past-data, invalid-word}
-use Rattle.metroid_format.specs.Command.{commandAt, wordOf, isEnd}
-use Rattle.metroid_format.specs.Words.{pair, commandOfWord, Straight, straightFrom, straightBy, straight, afterCommand, Decodes, Encoded, encoded, encodedBy, beforeRest, Encodes}
+use lib.Seq.{sets, drop-cons, length-take-le}
+use Rattle.engine_base.specs.Bytes.{wordAt}
+use Rattle.engine_base.specs.Refusal.{past-data}
+use Rattle.metroid_format.specs.Command.{commandAt, wordOf}
+use Rattle.metroid_format.specs.Words.{pair, commandOfWord, Straight, straightFrom, straightBy, straight, afterCommand, Decodes, Encoded, encoded, encodedBy, beforeRest, Encodes, wordSize}
 use Rattle.metroid_format.specs.declared.command.Kind.{Kind}
 use Rattle.metroid_format.specs.declared.command.Command.{Command}
 use Rattle.metroid_format.specs.declared.command.Decoded.{Decoded}
@@ -22,23 +23,26 @@ use Rattle.metroid_format.specs.declared.command.Decoded.the-variants.{F
 use Rattle.metroid_format.specs.declared.command.Finish.{Finish}
 use Rattle.metroid_format.specs.declared.command.Finish.the-variants.{End as Ended, Refused as Faulty}
 use Rattle.engine_base.proofs.Picks.{by-test}
-use Rattle.metroid_format.proofs.command.Laws.{Stands, found, next-within}
+use Rattle.metroid_format.proofs.command.Laws.{Stands, found, next-after, next-within, word-there, end-word}
 use Rattle.engine_base.proofs.Buffers.{Written, written-none, written-more}
 
--- r is what `command_at` answers of a word's two bytes
+-- r is what `command_at` answers of a word's two bytes, and v the word of the command's
 module _ (kind : Kind) (w : ℕ) (r : Decoded) (q : r ≡ commandAt kind (pair w) 0) where
-  pub word-refused : (number offset : ℕ) → r ≡ Refused number offset → commandOfWord kind w ≡ Refused invalid-word 0
+  pub size-refused : (number offset : ℕ) → r ≡ Refused number offset → 0 ≡ wordSize (commandOfWord kind w)
   unfolding commandOfWord
-  word-refused number offset e = rw (← q, e)
+  size-refused number offset e = rw (← q, e)
 
-  module _ (c : Command) (next : ℕ) (e : r ≡ Found c next) (v : ℕ) (f : v ≡ wordOf c) where
-    pub word-found : v ≡ w → commandOfWord kind w ≡ Found c next
-    unfolding commandOfWord
-    word-found g = rw (← q, e) (simp (eq-eqb (wordOf c) w (sym f ∙ g)))
+  module _ (c : Command) (next : ℕ) (e : r ≡ Found c next) (part : List ℕ) (p : part ≡ take next (pair w)) (v : ℕ) (f : v ≡ wordAt part 0) where
+    given-word : v ≡ wordOf c
+    given-word = f ∙ rw (p, ← sub-zero next) (word-there (found kind (pair w) 0 (sym q ∙ e)))
 
-    pub word-other : (v ≡ w → ⊥) → commandOfWord kind w ≡ Refused invalid-word 0
+    pub size-found : v ≡ w → next ≡ wordSize (commandOfWord kind w)
     unfolding commandOfWord
-    word-other g = rw (← q, e) (simp (ne-eqb (wordOf c) w (λ h. g (f ∙ h))))
+    size-found g = rw (← q, e) (simp (eq-eqb (wordOf c) w (sym given-word ∙ g)))
+
+    pub size-other : (v ≡ w → ⊥) → 0 ≡ wordSize (commandOfWord kind w)
+    unfolding commandOfWord
+    size-other g = rw (← q, e) (simp (ne-eqb (wordOf c) w (λ h. g (given-word ∙ h))))
 
 module _ (kind : Kind) (bytes : List ℕ) where
   pub straight-next : (left l at : ℕ) (d : Decoded) → left ≡ suc l → commandAt kind bytes at ≡ d → straightFrom kind bytes left at ≡ straightBy at (λ next. straightFrom kind bytes l next) d
@@ -86,24 +90,26 @@ module _ (kind : Kind) (bytes : List ℕ) where
             let s = rest-is _ (straight-next _ _ at _ one-more (sym q ∙ e)) in
             decodes _ n now (s .0) (s .1)
 
-        -- w is the command's word, b whether the command is an end, and now′ the buffer with the word
-        module _ (c : Command) (next : ℕ) (e : r ≡ Found c next) (w : ℕ) (f : w ≡ wordOf c) (now′ : List ℕ) (g : now′ ≡ set now n w) (b : Bool) (d : b ≡ isEnd c) where
-          after : (x : Bool) → b ≡ x → straightFrom kind bytes (length bytes - n) at ≡ afterCommand x w next (straightFrom kind bytes (length bytes - (n + 1)) next)
-          after x t = straight-next _ _ at _ one-more (sym q ∙ e) ∙ rw (← d, t, f)
+        -- w is the word of the command's bytes, and now′ the buffer with the word
+        module _ (c : Command) (next : ℕ) (e : r ≡ Found c next) (part : List ℕ) (p : part ≡ take (next - at) (drop at bytes)) (w : ℕ) (f : w ≡ wordAt part 0) (now′ : List ℕ) (g : now′ ≡ set now n w) where
+          standing : Stands kind bytes at c next
+          standing = found kind bytes at (sym q ∙ e)
 
-          pub decodes-end : b ≡ true → Decodes (straight kind bytes) before (n + 1) Ended now′
-          decodes-end t =
-              let s = rest-is _ (after true t) in
+          word-is : w ≡ wordOf c
+          word-is = f ∙ rw p (word-there standing)
+
+          after : (x : Bool) → eqb w 0 ≡ x → straightFrom kind bytes (length bytes - n) at ≡ afterCommand x w next (straightFrom kind bytes (length bytes - (n + 1)) next)
+          after x t = straight-next _ _ at _ one-more (sym q ∙ e) ∙ rw (end-word standing, ← word-is, t)
+
+          pub decodes-end : w ≡ 0 → Decodes (straight kind bytes) before (n + 1) Ended now′
+          decodes-end z =
+              let s = rest-is _ (after true (eq-eqb w 0 z)) in
               decodes _ (n + 1) _ (rw g (written-more (w ∷ []) (s .0))) (s .1)
 
-          pub midway-more : b ≡ false → Midway before now′ (n + 1) next
-          midway-more t =
-              let s = rest-is _ (after false t) in
+          pub midway-more : (w ≡ 0 → ⊥) → Midway before now′ (n + 1) next
+          midway-more z =
+              let s = rest-is _ (after false (ne-eqb w 0 z)) in
               record { within = omega arith; written = rw g (written-more (w ∷ []) (s .0)); finish = s .1 }
-
-pub put-both : (before mid after : List ℕ) (at count w : ℕ) → (count ≡ 0 → ⊥) → (count ≡ 1 → ⊥) → mid ≡ set before at (w % 256) → after ≡ set mid (at + 1) (w / 256) → after ≡ sets before at (take count (pair w))
-put-both before mid after at count w p q e f =
-    rw (take-all count (pair w) (omega arith), ← add-one at) (f ∙ rw e)
 
 abbrev Word : Kind → ℕ → Decoded → Type 0
 Word kind w (Found c next) = Stands kind (pair w) 0 c next × (wordOf c ≡ w)
@@ -118,6 +124,22 @@ word-right kind w (Refused number offset) e = rw e tt
 -- a word that stands for a command is read from both its bytes or its first
 pub word-stands : (kind : Kind) (w : ℕ) {c : Command} {next : ℕ} → commandOfWord kind w ≡ Found c next → Stands kind (pair w) 0 c next × (wordOf c ≡ w)
 word-stands kind w e = subst (Word kind w) e (word-right kind w (commandAt kind (pair w) 0) refl)
+
+-- by the size of a word's command
+module _ (kind : Kind) (w : ℕ) where
+  none-by : (d : Decoded) → commandOfWord kind w ≡ d → wordSize d ≡ 0 → (number : ℕ) × (offset : ℕ) × (commandOfWord kind w ≡ Refused number offset)
+  none-by (Found c next) e z = absurd (omega (arith, next-after (word-stands kind w e .0)))
+  none-by (Refused number offset) e z = (number, offset, e)
+
+  none-of : wordSize (commandOfWord kind w) ≡ 0 → (number : ℕ) × (offset : ℕ) × (commandOfWord kind w ≡ Refused number offset)
+  none-of z = none-by (commandOfWord kind w) refl z
+
+  one-by : {r : ℕ} (d : Decoded) → commandOfWord kind w ≡ d → r ≡ wordSize d → (r ≡ 0 → ⊥) → (c : Command) × (commandOfWord kind w ≡ Found c r)
+  one-by (Found c next) e q z = (c, rw q e)
+  one-by (Refused number offset) e q z = absurd (z q)
+
+  one-of : {r : ℕ} → r ≡ wordSize (commandOfWord kind w) → (r ≡ 0 → ⊥) → (c : Command) × (commandOfWord kind w ≡ Found c r)
+  one-of q z = one-by (commandOfWord kind w) refl q z
 
 none-left : (i : ℕ) (l : List ℕ) → i ≤ length l → eqb (length (drop i l)) 0 ≡ eqb i (length l)
 none-left zero [] h = refl
@@ -156,38 +178,43 @@ module _ (kind : Kind) (words : List ℕ) where
         let s = rest-of _ (encoded-none i h) in
         encodes _ n now (s .0) (s .1)
 
-    -- r is what `command_of` answers
-    module _ (h : i < length words) (r : Decoded) (q : r ≡ commandOfWord kind (getD words i 0)) where
-      pub encodes-refused : (number offset : ℕ) → r ≡ Refused number offset → Encodes (encoded kind words) before n false now
-      encodes-refused number offset e =
-          let s = rest-of _ (encoded-next i _ h (sym q ∙ e)) in
+    -- r is what `size_of` answers
+    module _ (h : i < length words) (r : ℕ) (q : r ≡ wordSize (commandOfWord kind (getD words i 0))) where
+      pub encodes-refused : r ≡ 0 → Encodes (encoded kind words) before n false now
+      encodes-refused z =
+          let s = rest-of _ (encoded-next i _ h (none-of kind _ (sym q ∙ z) .2)) in
           encodes _ n now (s .0) (s .1)
 
-      module _ (c : Command) (next : ℕ) (e : r ≡ Found c next) where
-        next-small : next ≤ 2
-        next-small = next-within (word-stands kind _ (sym q ∙ e) .0)
+      module _ (z : r ≡ 0 → ⊥) where
+        here : (c : Command) × (commandOfWord kind (getD words i 0) ≡ Found c r)
+        here = one-of kind _ q z
 
-        pub bytes-fit : length words * 2 < 2 ^ 63 → Fits w64 (n + next)
-        bytes-fit f = record { fits = omega (arith, m .small, next-small) }
+        small : r ≤ 2
+        small = next-within (word-stands kind _ (here .1) .0)
 
-        -- now′ is the buffer with the word's bytes, b whether the command is an end
-        module _ (now′ : List ℕ) (g : now′ ≡ sets now n (take next (pair (getD words i 0)))) (b : Bool) (d : b ≡ isEnd c) where
-          after-word : (x : Bool) → b ≡ x → encoded kind (drop i words) ≡ beforeRest x (take next (pair (getD words i 0))) (drop (i + 1) words) (encoded kind (drop (i + 1) words))
-          after-word x t = encoded-next i _ h (sym q ∙ e) ∙ rw (← d, t)
+        pub bytes-fit : length words * 2 < 2 ^ 63 → Fits w64 (n + r)
+        bytes-fit f = record { fits = omega (arith, m .small, small) }
 
-          length-bytes : length (take next (pair (getD words i 0))) ≡ next
-          length-bytes = length-take-le next (pair (getD words i 0)) next-small
+        -- now′ is the buffer with the word's bytes
+        module _ (now′ : List ℕ) (g : now′ ≡ sets now n (take r (pair (getD words i 0)))) where
+          after-word : (x : Bool) → eqb (getD words i 0) 0 ≡ x → encoded kind (drop i words) ≡ beforeRest x (take r (pair (getD words i 0))) (drop (i + 1) words) (encoded kind (drop (i + 1) words))
+          after-word x t =
+              let s = word-stands kind _ (here .1) in
+              encoded-next i _ h (here .1) ∙ rw (end-word (s .0), s .1, t)
 
-          more-bytes : (rest : List ℕ) → Written before (encoded kind words .bytes) now n (take next (pair (getD words i 0)) ++ rest) → Written before (encoded kind words .bytes) now′ (n + next) rest
+          length-bytes : length (take r (pair (getD words i 0))) ≡ r
+          length-bytes = length-take-le r (pair (getD words i 0)) small
+
+          more-bytes : (rest : List ℕ) → Written before (encoded kind words .bytes) now n (take r (pair (getD words i 0)) ++ rest) → Written before (encoded kind words .bytes) now′ (n + r) rest
           more-bytes rest w =
-              rw g (subst (λ (k : ℕ). Written before (encoded kind words .bytes) (sets now n (take next (pair (getD words i 0)))) (n + k) rest) length-bytes (written-more (take next (pair (getD words i 0))) w))
+              rw g (subst (λ (k : ℕ). Written before (encoded kind words .bytes) (sets now n (take r (pair (getD words i 0)))) (n + k) rest) length-bytes (written-more (take r (pair (getD words i 0))) w))
 
-          pub encodes-end : b ≡ true → Encodes (encoded kind words) before (n + next) (eqb (i + 1) (length words)) now′
-          encodes-end t =
-              let s = rest-of _ (after-word true t) in
-              encodes _ (n + next) _ (more-bytes [] (rw append-nil (s .0))) (s .1 ∙ none-left (i + 1) words (omega arith))
+          pub encodes-end : getD words i 0 ≡ 0 → Encodes (encoded kind words) before (n + r) (eqb (i + 1) (length words)) now′
+          encodes-end e =
+              let s = rest-of _ (after-word true (eq-eqb _ 0 e)) in
+              encodes _ (n + r) _ (more-bytes [] (rw append-nil (s .0))) (s .1 ∙ none-left (i + 1) words (omega arith))
 
-          pub halfway-more : b ≡ false → Halfway before now′ (i + 1) (n + next)
-          halfway-more t =
-              let s = rest-of _ (after-word false t) in
-              record { within = omega arith; small = omega (arith, m .small, next-small); written = more-bytes _ (s .0); judged = s .1 }
+          pub halfway-more : (getD words i 0 ≡ 0 → ⊥) → Halfway before now′ (i + 1) (n + r)
+          halfway-more e =
+              let s = rest-of _ (after-word false (ne-eqb _ 0 e)) in
+              record { within = omega arith; small = omega (arith, m .small, small); written = more-bytes _ (s .0); judged = s .1 }

@@ -10,7 +10,7 @@ use Rattle.metroid_format.specs.declared.header.Track.{Track}
 use Rattle.metroid_player.specs.Record.{four, channelsFit}
 use Rattle.metroid_player.specs.Frame.{Settled, settleFrom, framedBy, frameOfTrack, frameOf}
 use Rattle.metroid_player.specs.declared.record.Player.{Player}
-use Rattle.metroid_player.specs.declared.frame.Answer.{Answer}
+use Rattle.engine_base.specs.declared.answer.Answer.{Answer}
 use Rattle.metroid_player.specs.declared.frame.Framed.{Framed}
 
 -- a refused frame and a stopped one give the record back; 1 to 9, 16 and Stopped read nothing

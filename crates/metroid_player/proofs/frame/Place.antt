@@ -25,7 +25,7 @@ use Rattle.metroid_player.specs.declared.record.Channel.{Channel}
 use Rattle.metroid_player.specs.declared.record.Player.{Player}
 use Rattle.metroid_player.specs.declared.frame.Turned.{Turned}
 use Rattle.metroid_player.specs.declared.frame.Turn.{Turn}
-use Rattle.metroid_player.specs.declared.frame.Answer.{Answer}
+use Rattle.engine_base.specs.declared.answer.Answer.{Answer}
 use Rattle.metroid_player.specs.declared.frame.Framed.{Framed}
 use Rattle.metroid_player.proofs.frame.Laws.{next-fits, start-fits}
 

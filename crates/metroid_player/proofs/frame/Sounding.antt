@@ -20,13 +20,14 @@ use Rattle.metroid_format.specs.declared.channel.Cursor.{Cursor}
 use Rattle.metroid_format.specs.declared.channel.Stop.{Stop}
 use Rattle.metroid_player.specs.Record.{four, freshChannel, cursorOf, channelsFit}
 use Rattle.metroid_player.specs.Event.{offEvent, eventOf}
-use Rattle.metroid_player.specs.Frame.{oneOff, turnBy, turnOf, Settled, settleBy, settleTurn, settleFrom, framedBy, frameOfTrack, answerKind}
+use Rattle.metroid_player.specs.Frame.{oneOff, turnBy, turnOf, Settled, settleBy, settleTurn, settleFrom, framedBy, frameOfTrack}
+use Rattle.engine_base.specs.Answer.{answerKind}
 use Rattle.metroid_player.specs.declared.record.Channel.{Channel}
 use Rattle.metroid_player.specs.declared.record.Player.{Player}
 use Rattle.metroid_player.specs.declared.event.Event.{Event}
 use Rattle.metroid_player.specs.declared.frame.Turned.{Turned}
 use Rattle.metroid_player.specs.declared.frame.Turn.{Turn}
-use Rattle.metroid_player.specs.declared.frame.Answer.{Answer}
+use Rattle.engine_base.specs.declared.answer.Answer.{Answer}
 use Rattle.metroid_player.specs.declared.frame.Framed.{Framed}
 
 -- the k-th channel: as opened, its record, and its part of a frame's answer

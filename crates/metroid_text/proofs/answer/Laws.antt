@@ -5,7 +5,7 @@ use mathlib.Core.Path.{_≡_, refl, ap}
 use native.Mathlib.Omega.{arith}
 use lib.ListN.{length, getD}
 use Rattle.metroid_player.specs.Event.{toldEvent}
-use Rattle.metroid_player.specs.Frame.{answerPlace}
+use Rattle.engine_base.specs.Answer.{answerPlace}
 use Rattle.metroid_player.specs.declared.event.Event.{Event}
 use Rattle.metroid_player.specs.declared.frame.Framed.{Framed}
 use Rattle.metroid_text.specs.Line.{newline, each, Spells, Puts}

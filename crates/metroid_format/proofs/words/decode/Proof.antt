@@ -3,7 +3,7 @@ use native.Mathlib.Omega.{arith}
 use borrow.Author.Needs.{needs}
 use lib.ListN.{length}
 use Rattle.engine_base.proofs.Buffers.{same-length}
-use Rattle.metroid_format.proofs.command.Laws.{word-fits}
+use Rattle.metroid_format.proofs.command.Laws.{goes-on}
 use Rattle.metroid_format.proofs.words.Laws.{Midway, midway-none, midway-more, decodes-past, decodes-refused, decodes-end}
 use Rattle.metroid_format.proofs.words.decode.Statement.{statement}
 use Rattle.metroid_format.proofs.words.decode.Tie as tie
@@ -26,10 +26,11 @@ decode-spec =
     (λ c. search needs)
     (λ c. search decodes-refused depth 12)
     (λ c. search needs)
-    (λ c κs. search word-fits depth 8)
+    (λ c. search goes-on depth 8)
+    (λ c κs. search needs)
+    (λ c κs. search needs)
     (λ c κs. search needs)
     (λ c. omega arith)
-    (λ c κs. search needs)
     (λ c. search same-length depth 8)
     (λ c. search decodes-end depth 14)
     (λ c. omega arith)

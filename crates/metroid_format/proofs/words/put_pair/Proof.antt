@@ -1,5 +1,4 @@
 use borrow.Author.Needs.{needs}
-use Rattle.metroid_format.proofs.words.Laws.{put-both}
 use Rattle.metroid_format.proofs.words.put_pair.Statement.{statement}
 use Rattle.metroid_format.proofs.words.put_pair.Tie as tie
 
@@ -9,11 +8,8 @@ put-pair-spec =
     (tie.spec
     (λ c. search needs)
     (λ c. search needs)
-    (λ c κs. search needs)
-    (λ c. search needs)
-    (λ c. rw (c .if2 .taken) (c .before .before .before .put8 .ensures))
-    (λ c. search needs)
     (λ c. search needs)
     (λ c κs. search needs)
+    (λ c κs. search needs)
     (λ c. search needs)
-    (λ c. search put-both depth 8))
+    (λ c. rw (c .before .before .fill8 .ensures, c .before .before .before .part .ensures)))

@@ -1,9 +1,9 @@
 use Prim.Native.Nat.{_+_, _≤_, _<_}
 use native.Mathlib.Omega.{arith}
-use Rattle.metroid_format.specs.Bank.{within, bank-end}
+use Rattle.engine_base.specs.Address.{within, bank-end}
 use Rattle.engine_base.proofs.Picks.{picks}
-use Rattle.metroid_format.proofs.bank.fits.Statement.{statement}
-use Rattle.metroid_format.proofs.bank.fits.Tie as tie
+use Rattle.engine_base.proofs.address.fits.Statement.{statement}
+use Rattle.engine_base.proofs.address.fits.Tie as tie
 
 pub fits-spec : {M : Type 1} → statement M
 unfolding within

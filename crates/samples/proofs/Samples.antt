@@ -6,7 +6,8 @@ use lib.ListN.{length, getD, take, drop}
 use Rattle.engine_base.specs.Told.{Told}
 use Rattle.engine_base.specs.Refusal.{invalid-command, invalid-note, past-lengths, no-length, past-data}
 use Rattle.metroid_format.specs.Command.{isKey, isPreset, noteAfter, commandOf, commandAt}
-use Rattle.metroid_format.specs.Bank.{bank-start, bank-end, published, within}
+use Rattle.engine_base.specs.Address.{bank-start, bank-end, within}
+use Rattle.metroid_format.specs.Bank.{published}
 use Rattle.engine_base.specs.Bytes.{wordAt}
 use Rattle.metroid_format.specs.Envelope.{envelopeAddress, envelopeEnds}
 use Rattle.metroid_format.specs.Header.{
@@ -32,14 +33,15 @@ use Rattle.metroid_format.specs.Header.{
 use Rattle.metroid_format.specs.declared.bank.Places.{Places}
 use Rattle.metroid_format.specs.Channel.{lengthFault, counterOf, playedAt, stepOf, readFrom, readUntil}
 use Rattle.metroid_format.specs.Timeline.{passedOf, passFrom, timelineOf}
-use Rattle.metroid_player.specs.Release.{dynamic, releaseOf}
+use Rattle.engine_base.specs.Release.{dynamic}
+use Rattle.metroid_player.specs.Release.{releaseOf}
 use Rattle.metroid_player.specs.Ctrl1.{defaultCtrl1, combined, ctrl1At}
 use Rattle.metroid_player.specs.Record.{soundFits, channelFits}
 use Rattle.metroid_player.specs.Event.{periodAt, envelopeOf, melodicRest, noteCtrl1, melodicNote, noiseSound, soundOf}
 use Rattle.metroid_player.specs.Frame.{turnOf, settleFrom, frameOfTrack, frameOf, startOf, toldFramed}
 use Rattle.metroid_player.specs.declared.frame.Framed.{Framed}
 use Rattle.metroid_check.specs.Run.{framesFrom, runOf}
 use Rattle.metroid_check.specs.Verdict.{stopOf, soonestFrom, verdictOf, toldVerdict}
 
 -- bytes at an address
 record Piece : Type 0 where

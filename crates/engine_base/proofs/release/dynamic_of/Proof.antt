@@ -2,10 +2,10 @@ use Prim.Native.Nat.{ℕ, _-_, _*_, min}
 use mathlib.Core.Path.{_≡_}
 use native.Mathlib.Omega.{arith}
 use borrow.Author.Needs.{needs}
 use Rattle.engine_base.specs.declared.time.Frames.{Frames}
-use Rattle.metroid_player.specs.Release.{dynamic}
-use Rattle.metroid_player.proofs.release.dynamic_of.Statement.{statement}
-use Rattle.metroid_player.proofs.release.dynamic_of.Tie as tie
+use Rattle.engine_base.specs.Release.{dynamic}
+use Rattle.engine_base.proofs.release.dynamic_of.Statement.{statement}
+use Rattle.engine_base.proofs.release.dynamic_of.Tie as tie
 
 counted : (length : Frames) (n : ℕ) → n ≡ min (4 * (length .count - 1)) 60 → record { count = n } ≡ dynamic length
 unfolding dynamic

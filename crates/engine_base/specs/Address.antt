@@ -1,0 +1,21 @@
+-- Addresses $8000 to $bfff.
+use Prim.Native.Nat.{ℕ, _+_, _-_}
+use mathlib.Core.Bool.{Bool}
+use mathlib.Core.List.{[], _∷_}
+use lib.Dec.{leb}
+use Rattle.engine_base.specs.Pick.{all}
+
+-- a bank stands for addresses $8000 to $bfff
+abbrev pub bank-start : ℕ
+bank-start = 0x8000
+
+abbrev pub bank-end : ℕ
+bank-end = 0xc000
+
+-- the offset of an address in the bank
+abbrev pub offsetOf : ℕ → ℕ
+offsetOf address = address - bank-start
+
+-- n bytes from an address stand wholly within the bank
+unfoldable pub within : ℕ → ℕ → Bool
+within address n = all (leb bank-start address ∷ leb (address + n) bank-end ∷ [])
