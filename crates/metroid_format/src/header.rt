@@ -7,13 +7,14 @@ use engine_base::address;
 use engine_base::bytes;
 use engine_base::refusal;
 ghost use mathlib.Core.Path.{_≡_};
+ghost use lib.ListN.{take, drop};
 ghost use Rattle.engine_base.specs.Address.{offsetOf};
 ghost use Rattle.engine_base.specs.Bytes.{wordAt};
 ghost use Rattle.metroid_format.specs.Header.{
   tablesFit,
   placesFit,
   headerAddress,
-  headerOf,
+  header-size,
   windowFits,
   envelopeNumbersFit,
   squareEnds,
@@ -22,12 +23,12 @@ ghost use Rattle.metroid_format.specs.Header.{
   addressesFit,
   allUnused,
   headerNumber,
-  numberOf,
   unusedVoice,
   voiceOf,
   voicesOf,
   trackOf,
   refusedTrack,
+  opened,
   openTrack,
   toldOpened,
 };
@@ -109,11 +110,10 @@ fn header_address(bank: &[u8], places: Places, track: u32) -> usize
     places.header_block as usize + bytes::byte(bank, entry) as usize
 }
 
-// The header of a track.
-fn header_of(bank: &[u8], places: Places, track: u32) -> &[u8]
-    ensures { λ r. ⌜ now r ≡ headerOf (now (bank .entry)) places track ⌝ }
+// The header at an address.
+fn header_at(bank: &[u8], address: usize) -> &[u8]
+    ensures { λ r. ⌜ now r ≡ take header-size (drop (offsetOf address) (now (bank .entry))) ⌝ }
 {
-    let address = header_address(bank, places, track);
     bytes::part(bank, address::offset_of(address), HEADER_SIZE)
 }
 
@@ -212,29 +212,6 @@ fn header_number(bank: &[u8], table: u32, header: &[u8]) -> u32
         return refusal::NO_CHANNEL;
     }
     0
-}
-
-// The first number of 1 to 9, or 0.
-fn number_of(bank: &[u8], places: Places, track: u32) -> u32
-    ensures { λ r. ⌜ r ≡ numberOf (now (bank .entry)) places track ⌝ }
-{
-    if bank.len() != bank::BANK_SIZE {
-        return refusal::WRONG_SIZE;
-    }
-    if !places_fit(places) {
-        return refusal::TABLE_OUTSIDE;
-    }
-    if places.track_count <= track {
-        return refusal::NO_TRACK;
-    }
-    if !address::fits(header_address(bank, places, track), HEADER_SIZE) {
-        return refusal::HEADER_OUTSIDE;
-    }
-    header_number(
-        bank,
-        places.envelope_addresses,
-        header_of(bank, places, track),
-    )
 }
 
 fn unused(kind: Kind) -> Voice
@@ -341,17 +318,34 @@ fn refused(number: u32) -> Opened
     Opened { number, track }
 }
 
+// The track of a header, or the first number of 5 to 9.
+fn open_header(bank: &[u8], places: Places, header: &[u8]) -> Opened
+    ensures { λ r. ⌜ r ≡ opened (headerNumber (now (bank .entry)) (places .«envelope_addresses») (now (header .entry))) (trackOf (now (bank .entry)) places (now (header .entry))) ⌝ }
+{
+    let number = header_number(bank, places.envelope_addresses, header);
+    if number != 0 {
+        return refused(number);
+    }
+    let track = track_of(bank, places, header);
+    Opened { number, track }
+}
+
 // A track of a bank, or the first number of 1 to 9.
 pub fn open(bank: &[u8], places: Places, track: u32) -> Opened
     ensures { λ r. ⌜ Answers toldOpened r (openTrack (now (bank .entry)) places track) ⌝ }
 {
-    let number = number_of(bank, places, track);
-    if number != 0 {
-        return refused(number);
+    if bank.len() != bank::BANK_SIZE {
+        return refused(refusal::WRONG_SIZE);
     }
-    let opened = track_of(bank, places, header_of(bank, places, track));
-    Opened {
-        number,
-        track: opened,
+    if !places_fit(places) {
+        return refused(refusal::TABLE_OUTSIDE);
     }
+    if places.track_count <= track {
+        return refused(refusal::NO_TRACK);
+    }
+    let address = header_address(bank, places, track);
+    if !address::fits(address, HEADER_SIZE) {
+        return refused(refusal::HEADER_OUTSIDE);
+    }
+    open_header(bank, places, header_at(bank, address))
 }
