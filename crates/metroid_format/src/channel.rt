@@ -13,7 +13,7 @@ ghost use mathlib.Core.Path.{_≡_};
 ghost use lib.ListN.{take};
 ghost use Rattle.engine_base.specs.Told.{Answers};
 ghost use Rattle.metroid_format.specs.Command.{data-limit};
-ghost use Rattle.metroid_format.specs.Channel.{sourceOf, lengthFault, counterOf, loopEnd, playedOf, playedAt, stepBy, stepOf, readUntil, toldUntil};
+ghost use Rattle.metroid_format.specs.Channel.{sourceOf, lengthFault, counterOf, loopEnd, playedOf, playedAt, stepOf, readUntil, toldUntil};
 
 // More commands than reading until a note can take.
 const FUEL: u32 = (DATA_LIMIT / 2 * 257 + 2) as u32;
@@ -149,10 +149,14 @@ fn loop_end(mut cursor: Cursor, next: usize) -> Cursor
     cursor
 }
 
-// The cursor after what a command does, or where reading stops.
-fn step_by(mut cursor: Cursor, played: Played) -> Step
-    ensures { λ r. ⌜ r ≡ stepBy cursor played ⌝ }
+// One command from a cursor.
+fn step_from(kind: Kind, bytes: &[u8], lengths: &[u8], window: u8, mut cursor: Cursor) -> Step
+    ensures { λ r. ⌜ r ≡
+        stepOf (sourceOf kind (now (bytes .entry)) (now (lengths .entry)) window) cursor ⌝ }
 {
+    let at = cursor.next;
+    let length = cursor.length;
+    let played = played_at(kind, bytes, lengths, window, at, length);
     match played {
         Played::End => Step::End,
         Played::EndLoop(next) => Step::Again(loop_end(cursor, next)),
@@ -175,16 +179,6 @@ fn step_by(mut cursor: Cursor, played: Played) -> Step
     }
 }
 
-// One command from a cursor.
-fn step_from(kind: Kind, bytes: &[u8], lengths: &[u8], window: u8, cursor: Cursor) -> Step
-    ensures { λ r. ⌜ r ≡
-        stepOf (sourceOf kind (now (bytes .entry)) (now (lengths .entry)) window) cursor ⌝ }
-{
-    let at = cursor.next;
-    let length = cursor.length;
-    step_by(cursor, played_at(kind, bytes, lengths, window, at, length))
-}
-
 fn stopped(stop: Stop, count: u32, cursor: Cursor) -> Until
     ensures { λ r. ⌜ r ≡ record { stop = stop; count = count; cursor = cursor } ⌝ }
 {
@@ -195,15 +189,16 @@ fn stopped(stop: Stop, count: u32, cursor: Cursor) -> Until
     }
 }
 
-// Commands until a note, the end or a fault, of data that is not cut.
-fn read_from(kind: Kind, bytes: &[u8], lengths: &[u8], window: u8, start: Cursor) -> Until
-    ensures { λ r. ⌜ r ≡
-        readUntil data-limit (sourceOf kind (now (bytes .entry)) (now (lengths .entry)) window) start ⌝ }
+// Commands until a note, the end or a fault.
+pub fn read_until(kind: Kind, bytes: &[u8], lengths: &[u8], window: u8, start: Cursor) -> Until
+    ensures { λ r. ⌜ Answers toldUntil r
+        (readUntil data-limit (sourceOf kind (take data-limit (now (bytes .entry))) (now (lengths .entry)) window) start) ⌝ }
 {
+    let data = bytes::part(bytes, 0, DATA_LIMIT);
     let mut cursor = start;
     let mut count: u32 = 0;
     while count < FUEL {
-        let step = step_from(kind, bytes, lengths, window, cursor);
+        let step = step_from(kind, data, lengths, window, cursor);
         match step {
             Step::Again(after) => {
                 cursor = after;
@@ -218,19 +213,5 @@ fn read_from(kind: Kind, bytes: &[u8], lengths: &[u8], window: u8, start: Cursor
         Stop::Refused(refusal::PAST_DATA, cursor.next),
         count,
         cursor,
-    )
-}
-
-// Commands until a note, the end or a fault.
-pub fn read_until(kind: Kind, bytes: &[u8], lengths: &[u8], window: u8, start: Cursor) -> Until
-    ensures { λ r. ⌜ Answers toldUntil r
-        (readUntil data-limit (sourceOf kind (take data-limit (now (bytes .entry))) (now (lengths .entry)) window) start) ⌝ }
-{
-    read_from(
-        kind,
-        bytes::part(bytes, 0, DATA_LIMIT),
-        lengths,
-        window,
-        start,
     )
 }

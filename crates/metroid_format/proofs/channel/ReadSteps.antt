@@ -1,9 +1,15 @@
 -- Laws of reading until a note.
 use Prim.Native.Nat.{ℕ, _+_, _-_, _<_}
-use mathlib.Core.Path.{_≡_, refl}
+use mathlib.Core.List.{List}
+use mathlib.Core.Path.{_≡_, refl, _∙_}
+use lib.ListN.{take}
 use Rattle.engine_base.specs.Refusal.{past-data}
-use Rattle.metroid_format.specs.Channel.{Source, stepOf, readBy, readFrom}
+use Rattle.engine_base.specs.Told.{Answers}
+use Rattle.metroid_format.specs.Command.{data-limit}
+use Rattle.metroid_format.specs.Channel.{Source, sourceOf, stepOf, readBy, readFrom, readUntil, toldUntil}
+use Rattle.engine_base.proofs.Picks.{answers}
 use Rattle.engine_base.proofs.Fuel.{turn}
+use Rattle.metroid_format.specs.declared.command.Kind.{Kind}
 use Rattle.metroid_format.specs.declared.channel.Cursor.{Cursor}
 use Rattle.metroid_format.specs.declared.channel.Step.{Step}
 use Rattle.metroid_format.specs.declared.channel.Until.{Until}
@@ -28,6 +34,12 @@ pub read-none : (source : Source) (cursor : Cursor) (count fuel : ℕ) (whole : 
     record { stop = Stop.Refused past-data (cursor .next); count = count; cursor = cursor } ≡ whole
 unfolding readFrom
 read-none source cursor count fuel whole e w = rw e at w
+
+-- the data is what `part` gives
+pub read-cut : (kind : Kind) (bytes part lengths : List ℕ) (window : ℕ) (start : Cursor) (until : Until) → part ≡ take data-limit bytes →
+    until ≡ readUntil data-limit (sourceOf kind part lengths window) start →
+    Answers toldUntil until (readUntil data-limit (sourceOf kind (take data-limit bytes) lengths window) start)
+read-cut kind bytes part lengths window start until e f = answers _ _ _ (f ∙ rw e)
 
 -- reading from a cursor, with the commands read before, command by command
 pub data ByCommand (source : Source) : Cursor → ℕ → Until → Type 0 where
