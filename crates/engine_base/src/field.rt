@@ -2,12 +2,6 @@
 ghost use mathlib.Core.Path.{_≡_};
 ghost use Prim.Native.Nat.{_%_};
 
-pub fn low1(b: u8) -> u8
-    ensures { λ r. ⌜ r ≡ b % 2 ⌝ }
-{
-    b & 0x01
-}
-
 pub fn low4(b: u8) -> u8
     ensures { λ r. ⌜ r ≡ b % 16 ⌝ }
 {

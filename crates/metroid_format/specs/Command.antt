@@ -67,6 +67,8 @@ isEnd (BeginLoop n) = false
 isEnd (Length l note) = false
 isEnd (Note b) = false
 
+-- Below: only private contracts and laws use these.
+
 abbrev pub told : Decoded → Told
 told (Found c next) = record { number = 0; values = wordOf c ∷ next ∷ [] }
 told (Refused n at) = record { number = n; values = at ∷ [] }

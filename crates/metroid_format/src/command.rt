@@ -43,7 +43,7 @@ pub enum Decoded {
 fn is_key(b: u8) -> bool
     ensures { λ r. ⌜ r ≡ isKey b ⌝ }
 {
-    if field::low1(b) == 0 {
+    if b % 2 == 0 {
         return b <= 0x7e;
     }
     false
@@ -91,7 +91,7 @@ fn note_after(kind: Kind, bytes: &[u8], at: usize, length: u8) -> Decoded
 }
 
 // The command at an offset: the first rule that fits decides.
-pub fn command_at(kind: Kind, bytes: &[u8], at: usize) -> Decoded
+pub(crate) fn command_at(kind: Kind, bytes: &[u8], at: usize) -> Decoded
     ensures { λ r. ⌜ Answers told r (commandAt kind (now (bytes .entry)) at) ⌝ }
 {
     if bytes.len() <= at {

@@ -1,4 +1,3 @@
-use borrow.Author.Needs.{needs}
 use Rattle.metroid_format.specs.Command.{isKey}
 use Rattle.engine_base.proofs.Picks.{picks}
 use Rattle.metroid_format.proofs.command.is_key.Statement.{statement}
@@ -9,6 +8,5 @@ unfolding isKey
 is-key-spec =
     tie.close
     (tie.spec
-    (λ c κs. search needs)
     (λ c. search picks depth 12)
     (λ c. search picks depth 12))
