@@ -70,7 +70,10 @@ enum { HEM_SQUARE_1 = 0, HEM_SQUARE_2 = 1, HEM_TRIANGLE = 2, HEM_NOISE = 3, HEM_
 /* Numbers of refusal
 
    Every call returns 0 or one of these. 1 to 9 are about the arguments and the track's header, and are tested in this
-   order; 10 to 15 are faults at a byte of a channel's data, named by channel and offset from the start of its data. */
+   order; 10 to 15 are faults at a byte of a channel's data, named by channel, offset from the start of its data, and
+   address, which is the channel's address in the track's header plus the offset. For 12 and 13 the byte is the
+   set-length command's first one; for 15 it is the one that is needed, and its address may pass 0xbfff. The words calls
+   have no bank and tell the offset alone. */
 typedef enum {
     HEM_OK = 0,
     HEM_BAD_BANK_SIZE = 1,       /* bank_len is not 16,384 */
@@ -121,7 +124,7 @@ _Static_assert(sizeof(hem_channel) == 8 && sizeof(hem_player) == 34, "the librar
 #endif
 
 /* The verdict: what hem_check writes. Frames count from 0. */
-#define HEM_VERDICT_WORDS 3
+#define HEM_VERDICT_WORDS 4
 /* of a pass (0) */
 #define HEM_PASS_FRAME 0   /* frame of the first end: as many frames sound before it */
 #define HEM_PASS_CHANNEL 1 /* channel that meets it */
@@ -129,15 +132,17 @@ _Static_assert(sizeof(hem_channel) == 8 && sizeof(hem_player) == 34, "the librar
 #define HEM_FAULT_CHANNEL 0
 #define HEM_FAULT_OFFSET 1
 #define HEM_FAULT_FRAME 2
+#define HEM_FAULT_ADDRESS 3 /* at most 0xc000, where the bank ends */
 
 /* The answer: what hem_frame writes. Words that have nothing to tell are 0. */
-#define HEM_ANSWER_WORDS 27
+#define HEM_ANSWER_WORDS 28
 #define HEM_ANSWER_KIND 0    /* HEM_EVENTS, HEM_END, HEM_STOPPED or HEM_REFUSED */
 #define HEM_ANSWER_COUNTS 1  /* four words, one a channel: commands it read in this frame, an end counted, a refused
                                 command not */
-#define HEM_ANSWER_CHANNEL 5 /* of a refusal 10 to 15: the channel */
-#define HEM_ANSWER_OFFSET 6  /* and the byte's offset in its data */
-#define HEM_ANSWER_PARTS 7   /* with HEM_EVENTS: five words a channel */
+#define HEM_ANSWER_CHANNEL 5 /* of a refusal 10 to 15: the channel, */
+#define HEM_ANSWER_OFFSET 6  /* the byte's offset in its data */
+#define HEM_ANSWER_ADDRESS 7 /* and its address, at most 0xc0ff: a record may name an offset behind the data */
+#define HEM_ANSWER_PARTS 8   /* with HEM_EVENTS: five words a channel */
 enum { HEM_EVENTS = 0, HEM_END = 1, HEM_STOPPED = 2, HEM_REFUSED = 3 };
 
 /* A channel's part of the answer: its words are answer[HEM_ANSWER_PART(channel) + one of these]. */
@@ -157,8 +162,8 @@ enum { HEM_OFF = 0, HEM_REST = 1, HEM_NOTE = 2 };
 
    Returns 0 if the track plays from hem_start to its first end without a refusal, and writes to verdict the frame and
    the channel of that end. Else returns the refusal that playing meets first: 1 to 9, and verdict stays as it is; or 10
-   to 15, and it writes channel, offset and frame to verdict. Where several channels stop in one frame the first of them
-   decides. A fault that stands behind the track's end is never met and is no refusal.
+   to 15, and it writes channel, offset, frame and address to verdict. Where several channels stop in one frame the
+   first of them decides. A fault that stands behind the track's end is never met and is no refusal.
 
    The returned number never depends on verdict_len. As many of the values as fit are written; the rest of the buffer
    stays. HEM_VERDICT_WORDS words are always enough. */
@@ -183,7 +188,7 @@ uint32_t hem_start(hem_player *player, const uint8_t *bank, size_t bank_len, uin
                   end is the last with a count above 0; channels after it were not read
      HEM_STOPPED  the record is marked as stopped, and stays
    or the refusal's number, 1 to 16, with HEM_REFUSED: the record stays, so asking again refuses again. For 10 to 15
-   channel and offset are told, and the commands read before the fault are counted.
+   channel, offset and address are told, and the commands read before the fault are counted.
 
    The answer has HEM_ANSWER_WORDS words. The returned number and the record never depend on answer_len: as many words
    as fit are written, and what lies behind them stays. */

@@ -23,9 +23,12 @@ OFFSETS, BLOCK, LENGTHS, PERIODS, PRESETS, ENVELOPES = 0xBBFA, 0xBD31, 0xBEF7, 0
 TRACKS, HEADER_SIZE = 12, 13
 NOISE = 3
 WRONG_SIZES = (0, 1, BANK_SIZE - 1, BANK_SIZE + 1, 2 * BANK_SIZE, 100000)
+# an address in the bank, or the one behind it
+BEHIND_BANK = f"{END:04x}"
+ADDRESS = f"(?:[89ab][0-9a-f]{{3}}|{BEHIND_BANK})"
 # what a track's line says after its number; a bank at the published places can't show 2 to 4
-LINE = re.compile(r"(pass) \d+ [0-3]|(refuse [5-9])|(refuse 1[0-5]) [0-3] \d+ \d+")
-MUST_COME = ["refuse 1", "pass"] + [f"refuse {number}" for number in range(5, 16)]
+LINE = re.compile(r"(pass) \d+ [0-3]|(refuse [5-9])|(refuse 1[0-5]) [0-3] \d+ \d+ " + ADDRESS)
+MUST_COME = ["refuse 1", "pass"] + [f"refuse {number}" for number in range(5, 16)] + [BEHIND_BANK]
 
 
 def note(rnd, channel, after_length):
@@ -160,13 +163,13 @@ def same(name, data):
 
 
 def told_of_bank(name, bank):
-    """What is said of each track: pass, or refuse and the number."""
+    """Of each track pass or refuse and the number; then the address behind the bank, as often as it came."""
     lines = same(name, bank).splitlines()
     numbered = [line.split(" ", 1) for line in lines]
     matches = [LINE.fullmatch(words[-1]) for words in numbered]
     if [words[0] for words in numbered] != [str(n) for n in range(TRACKS)] or None in matches:
         sys.exit(f"{name}: not a line a track\n" + "\n".join(lines))
-    return [match[match.lastindex] for match in matches]
+    return [match[match.lastindex] for match in matches] + [BEHIND_BANK for line in lines if line.endswith(BEHIND_BANK)]
 
 
 def main():

@@ -176,8 +176,7 @@ static void fill_header(setup *s, const uint32_t slots[HEM_CHANNELS])
         if (one_in(4))
             continue;
         random_data(i == HEM_NOISE, bytes, size);
-        memcpy(byte_at(s, address), bytes, size);
-        name_channel(s, i, address);
+        put_channel(s, i, address, bytes, size);
     }
 }
 

@@ -68,6 +68,13 @@ void fill_pattern(void *buffer, size_t size)
     memset(buffer, 0xA5, size);
 }
 
+int right_address(const setup *s, uint32_t number, uint32_t channel, uint32_t offset, uint32_t address)
+{
+    if (number < HEM_NO_COMMAND || number > HEM_PAST_DATA)
+        return address == 0;
+    return channel < HEM_CHANNELS && address == named_address(s, channel) + offset;
+}
+
 ref_player as_reference(const hem_player *player)
 {
     ref_player r;

@@ -19,6 +19,9 @@ void count_number(library_call call, uint32_t number);
 /* Lent buffers are longer than what is lent; what is not to be written keeps its bytes. */
 void fill_pattern(void *buffer, size_t size);
 
+/* The address told of a number: for 10 to 15 the header's word of the channel plus the offset, else 0. */
+int right_address(const setup *s, uint32_t number, uint32_t channel, uint32_t offset, uint32_t address);
+
 int same_record(const hem_player *a, const ref_player *b);
 ref_player as_reference(const hem_player *player);
 

@@ -12,10 +12,7 @@ static void build(void)
     plain_setup(&s, bank);
     typical_track(&s);
     s.track = 1;
-    name_channel(&s, HEM_TRIANGLE, DATA_OF(4));
-    *byte_at(&s, DATA_OF(4)) = 0xB0;
-    *byte_at(&s, DATA_OF(4) + 1) = 0x2A;
-    *byte_at(&s, DATA_OF(4) + 2) = 0xA0;
+    put_channel(&s, HEM_TRIANGLE, DATA_OF(4), BYTES(0xB0, 0x2A, 0xA0));
 }
 
 int main(int argc, char **argv)

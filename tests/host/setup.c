@@ -5,7 +5,7 @@
 
 enum { TEMPO_150 = 0x0B };
 
-uint8_t *byte_at(setup *s, uint32_t address)
+uint8_t *byte_at(const setup *s, uint32_t address)
 {
     return s->bank + (address - FIRST_ADDRESS);
 }
@@ -16,7 +16,7 @@ void put_low_first(setup *s, uint32_t address, uint32_t word)
     byte_at(s, address)[1] = (uint8_t)(word >> 8);
 }
 
-uint8_t *header_of(setup *s)
+uint8_t *header_of(const setup *s)
 {
     uint32_t offset = *byte_at(s, s->places.header_offsets + s->track);
     return byte_at(s, s->places.header_block + offset);
@@ -29,10 +29,21 @@ void name_channel(setup *s, int channel, uint32_t address)
     entry[1] = (uint8_t)(address >> 8);
 }
 
+uint32_t named_address(const setup *s, uint32_t channel)
+{
+    const uint8_t *entry = header_of(s) + ADDRESSES + 2 * channel;
+    return entry[0] + 256u * entry[1];
+}
+
+void put_channel(setup *s, int channel, uint32_t address, const uint8_t *bytes, size_t count)
+{
+    memcpy(byte_at(s, address), bytes, count);
+    name_channel(s, channel, address);
+}
+
 void use_channel(setup *s, int channel, const uint8_t *bytes, size_t count)
 {
-    memcpy(byte_at(s, DATA_OF(channel)), bytes, count);
-    name_channel(s, channel, DATA_OF(channel));
+    put_channel(s, channel, DATA_OF(channel), bytes, count);
 }
 
 static void put_tables(setup *s)

@@ -42,11 +42,14 @@ enum {
 #define DATA_OF(channel) (0x9000u + 0x100u * (unsigned)(channel))
 
 /* The address must be in the bank. */
-uint8_t *byte_at(setup *s, uint32_t address);
+uint8_t *byte_at(const setup *s, uint32_t address);
 void put_low_first(setup *s, uint32_t address, uint32_t word);
-uint8_t *header_of(setup *s);
+uint8_t *header_of(const setup *s);
 void name_channel(setup *s, int channel, uint32_t address);
-/* Puts the bytes at the channel's own address and names it in the header. */
+uint32_t named_address(const setup *s, uint32_t channel);
+/* Puts the bytes at the address and names it in the header. */
+void put_channel(setup *s, int channel, uint32_t address, const uint8_t *bytes, size_t count);
+/* The same at the channel's own address. */
 void use_channel(setup *s, int channel, const uint8_t *bytes, size_t count);
 
 /* A zeroed bank of 16,384 bytes with the published places and lengths, tempo 150 BPM, no track using any channel. */

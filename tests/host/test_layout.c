@@ -16,7 +16,19 @@ static void test_offsets(void)
     EXPECT(sizeof(hem_player) == 34 && alignof(hem_player) == 2);
     EXPECT(offsetof(hem_player, stopped) == 0);
     EXPECT(offsetof(hem_player, channels) == 2);
+}
+
+/* The words of verdict and answer, as the paper numbers them; the independent answer has the same. */
+static void test_words_told(void)
+{
+    EXPECT(HEM_PASS_FRAME == 0 && HEM_PASS_CHANNEL == 1);
+    EXPECT(HEM_FAULT_CHANNEL == 0 && HEM_FAULT_OFFSET == 1 && HEM_FAULT_FRAME == 2 && HEM_FAULT_ADDRESS == 3);
+    EXPECT(HEM_VERDICT_WORDS == 4);
+    EXPECT(HEM_ANSWER_KIND == 0 && HEM_ANSWER_COUNTS == 1);
+    EXPECT(HEM_ANSWER_CHANNEL == 5 && HEM_ANSWER_OFFSET == 6 && HEM_ANSWER_ADDRESS == 7);
+    EXPECT(HEM_ANSWER_PARTS == 8 && HEM_ANSWER_WORDS == 28);
     EXPECT(HEM_ANSWER_PART(HEM_CHANNELS) == HEM_ANSWER_WORDS);
+    EXPECT(HEM_ANSWER_WORDS == REF_ANSWER_WORDS);
 }
 
 /* Start clears the 33 bytes that have a meaning and nothing behind them. */
@@ -55,12 +67,13 @@ void test_layout(void)
 {
     static uint8_t bank[HEM_BANK_SIZE];
     setup s;
-    begin_part("layout", 20);
+    begin_part("layout", 27);
     plain_setup(&s, bank);
     use_channel(&s, HEM_SQUARE_1, BYTES(0xC2, 0xB1, 0x2A, 0xFF, 0x00));
     use_channel(&s, HEM_TRIANGLE, BYTES(0xB0, 0x30, 0x00));
     use_channel(&s, HEM_NOISE, BYTES(0xC1, 0xFF, 0xFE, 0xB2, 0x07, 0x00));
     test_offsets();
+    test_words_told();
     test_extent(&s);
     test_bytes(&s);
 }

@@ -3,15 +3,19 @@
 
 #include <string.h>
 
-/* LEAST_EACH: expectations of a round, three of start, four of a frame, one of what is foreseen, one of the bank. */
-enum { LENT = 32, MOST_ROOM = 30, FRAMES = 60, FORESEEN_LIMIT = 400, LEAST_EACH = 9 };
+enum { MOST_ROOM = HEM_ANSWER_WORDS + 3, LENT = MOST_ROOM + 2, FRAMES = 60, FORESEEN_LIMIT = 400 };
 
-/* How often each kind of answer, each state of a channel, and an end and a fault that the check foresaw were seen. */
-static unsigned long kinds[HEM_REFUSED + 1], states[HEM_NOTE + 1], ends, faults;
+/* Expectations of start, of a frame, and of a round: these two, one of what is foreseen, one of the bank. */
+enum { EACH_START = 3, EACH_FRAME = 5, LEAST_EACH = EACH_START + EACH_FRAME + 2 };
+
+/* How often each kind of answer, each state of a channel, an address further than the bank's end, and an end and a
+   fault that the check foresaw were seen. */
+static unsigned long kinds[HEM_REFUSED + 1], states[HEM_NOTE + 1], past_bank_end, ends, faults;
 
 static void count_answer(const uint32_t *answer)
 {
     kinds[answer[HEM_ANSWER_KIND]]++;
+    past_bank_end += answer[HEM_ANSWER_ADDRESS] > AFTER_BANK;
     for (int i = 0; i < HEM_CHANNELS; i++)
         states[answer[HEM_ANSWER_PART(i) + HEM_PART_STATE]]++;
 }
@@ -23,6 +27,8 @@ static void expect_all_seen(unsigned long rounds)
     for (int i = HEM_EVENTS; i <= HEM_REFUSED; i++)
         EXPECT(kinds[i] > 0);
     EXPECT(states[HEM_REST] > 0 && states[HEM_NOTE] > 0);
+    printf("addresses further than the bank's end: %lu\n", past_bank_end);
+    EXPECT(past_bank_end > rounds / 100);
     printf("foreseen and met: ends %lu, faults %lu\n", ends, faults);
     EXPECT(ends > rounds / 10 && faults > rounds / 10);
 }
@@ -37,7 +43,8 @@ static void compare_start(const setup *s, hem_player *player)
     EXPECT(same_record(player, &wanted));
 }
 
-/* One frame: number, answer as far as it fits, what lies behind it, and the record. */
+/* One frame: number, answer as far as it fits, what lies behind it, and the record; and the address, whatever the
+   independent player tells. */
 static uint32_t compare_frame(const setup *s, hem_player *player, size_t room)
 {
     ref_player next = as_reference(player);
@@ -54,6 +61,9 @@ static uint32_t compare_frame(const setup *s, hem_player *player, size_t room)
     EXPECT(number == wanted_number);
     EXPECT(memcmp(found, wanted, sizeof found) == 0);
     EXPECT(same_record(player, &next));
+    EXPECT(room <= HEM_ANSWER_ADDRESS
+           || right_address(s, wanted_number, found[HEM_ANSWER_CHANNEL], found[HEM_ANSWER_OFFSET],
+                            found[HEM_ANSWER_ADDRESS]));
     return number;
 }
 
@@ -112,6 +122,25 @@ static void compare_foreseen(const setup *s)
         EXPECT(answer[HEM_ANSWER_KIND] == HEM_REFUSED);
         EXPECT(answer[HEM_ANSWER_CHANNEL] == verdict[HEM_FAULT_CHANNEL]);
         EXPECT(answer[HEM_ANSWER_OFFSET] == verdict[HEM_FAULT_OFFSET]);
+        EXPECT(answer[HEM_ANSWER_ADDRESS] == verdict[HEM_FAULT_ADDRESS]);
+    }
+}
+
+/* Six frames with events and then a fault, into every room. */
+static void compare_every_room(void)
+{
+    static uint8_t bank[HEM_BANK_SIZE];
+    const int frames = 7;
+    setup s;
+    begin_part("rooms", (MOST_ROOM + 1) * (EACH_START + frames * EACH_FRAME));
+    plain_setup(&s, bank);
+    use_channel(&s, HEM_TRIANGLE, BYTES(0xB0, 0x2A, 0xA0));
+    for (size_t room = 0; room <= MOST_ROOM; room++) {
+        hem_player player;
+        begin_round(room);
+        compare_start(&s, &player);
+        for (int i = 0; i < frames; i++)
+            compare_frame(&s, &player, room);
     }
 }
 
@@ -130,4 +159,5 @@ void test_player(unsigned long rounds)
         EXPECT(memcmp(before, memory, sizeof before) == 0);
     }
     expect_all_seen(rounds);
+    compare_every_room();
 }

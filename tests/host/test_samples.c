@@ -1,41 +1,79 @@
-/* The sample tracks of the papers, with what they say of them: no other implementation is asked. */
+/* The sample tracks of the papers and the places of faults, with what they say of them: no other implementation is
+   asked. */
 #include "host_test.h"
 
 #include <string.h>
 
 static uint8_t bank[HEM_BANK_SIZE];
 
-static void expect_verdict(const setup *s, uint32_t number, uint32_t first, uint32_t second, uint32_t third)
+static void expect_verdict(const setup *s, uint32_t number, const uint32_t wanted[HEM_VERDICT_WORDS])
 {
     uint32_t verdict[HEM_VERDICT_WORDS] = { 0 };
     EXPECT(hem_check(SETUP(s), verdict, HEM_VERDICT_WORDS) == number);
-    EXPECT(verdict[0] == first && verdict[1] == second && verdict[2] == third);
+    EXPECT(memcmp(verdict, wanted, sizeof verdict) == 0);
 }
 
 static void expect_pass(const setup *s, uint32_t frame, uint32_t channel)
 {
-    expect_verdict(s, HEM_OK, frame, channel, 0);
+    const uint32_t wanted[HEM_VERDICT_WORDS] = { frame, channel, 0, 0 };
+    expect_verdict(s, HEM_OK, wanted);
 }
 
-static void expect_triangle(uint32_t number, uint32_t first, uint32_t second, uint32_t third, const uint8_t *bytes,
+/* A frame's number and kind, and the place it tells: three zeros where there is none. */
+static void expect_frame(const setup *s, hem_player *player, uint32_t number, uint32_t kind, uint32_t channel,
+                         uint32_t offset, uint32_t address)
+{
+    uint32_t answer[HEM_ANSWER_WORDS];
+    EXPECT(hem_frame(player, SETUP(s), answer, HEM_ANSWER_WORDS) == number);
+    EXPECT(answer[HEM_ANSWER_KIND] == kind && answer[HEM_ANSWER_CHANNEL] == channel);
+    EXPECT(answer[HEM_ANSWER_OFFSET] == offset && answer[HEM_ANSWER_ADDRESS] == address);
+}
+
+static void expect_events(const setup *s, hem_player *player, uint32_t frames)
+{
+    for (uint32_t i = 0; i < frames; i++)
+        expect_frame(s, player, HEM_OK, HEM_EVENTS, 0, 0, 0);
+}
+
+/* From the check, and from the frame that meets it. */
+static void expect_fault(const setup *s, uint32_t number, uint32_t channel, uint32_t offset, uint32_t frame,
+                         uint32_t address)
+{
+    const uint32_t wanted[HEM_VERDICT_WORDS] = { channel, offset, frame, address };
+    hem_player player;
+    expect_verdict(s, number, wanted);
+    EXPECT(hem_start(&player, SETUP(s)) == HEM_OK);
+    expect_events(s, &player, frame);
+    expect_frame(s, &player, number, HEM_REFUSED, channel, offset, address);
+}
+
+static void triangle_passes(uint32_t frame, const uint8_t *bytes, size_t count)
+{
+    setup s;
+    plain_setup(&s, bank);
+    use_channel(&s, HEM_TRIANGLE, bytes, count);
+    expect_pass(&s, frame, HEM_TRIANGLE);
+}
+
+static void triangle_faults(uint32_t number, uint32_t offset, uint32_t frame, uint32_t address, const uint8_t *bytes,
                             size_t count)
 {
     setup s;
     plain_setup(&s, bank);
     use_channel(&s, HEM_TRIANGLE, bytes, count);
-    expect_verdict(&s, number, first, second, third);
+    expect_fault(&s, number, HEM_TRIANGLE, offset, frame, address);
 }
 
 static void test_triangles(void)
 {
-    expect_triangle(HEM_OK, 6, HEM_TRIANGLE, 0, BYTES(0xB0, 0x2A, 0x00));
-    expect_triangle(HEM_OK, 36, HEM_TRIANGLE, 0, BYTES(0xC3, 0xB0, 0x2A, 0x02, 0xFF, 0x00));
-    expect_triangle(HEM_OK, 1536, HEM_TRIANGLE, 0, BYTES(0xC0, 0xB0, 0x2A, 0xFF, 0x00));
-    expect_triangle(HEM_OK, 0, HEM_TRIANGLE, 0, BYTES(0xFF, 0x00));
-    expect_triangle(HEM_OK, 6, HEM_TRIANGLE, 0, BYTES(0xB0, 0x00, 0x00));
-    expect_triangle(HEM_NO_LENGTH_YET, HEM_TRIANGLE, 0, 0, BYTES(0x2A, 0x00));
-    expect_triangle(HEM_NO_SUCH_KEY, HEM_TRIANGLE, 1, 0, BYTES(0xB0, 0x81));
-    expect_triangle(HEM_NO_COMMAND, HEM_TRIANGLE, 2, 6, BYTES(0xB0, 0x2A, 0xA0));
+    triangle_passes(6, BYTES(0xB0, 0x2A, 0x00));
+    triangle_passes(36, BYTES(0xC3, 0xB0, 0x2A, 0x02, 0xFF, 0x00));
+    triangle_passes(1536, BYTES(0xC0, 0xB0, 0x2A, 0xFF, 0x00));
+    triangle_passes(0, BYTES(0xFF, 0x00));
+    triangle_passes(6, BYTES(0xB0, 0x00, 0x00));
+    triangle_faults(HEM_NO_LENGTH_YET, 0, 0, 0x9200, BYTES(0x2A, 0x00));
+    triangle_faults(HEM_NO_SUCH_KEY, 1, 0, 0x9201, BYTES(0xB0, 0x81));
+    triangle_faults(HEM_NO_COMMAND, 2, 6, 0x9202, BYTES(0xB0, 0x2A, 0xA0));
 }
 
 /* A fault at frame 6 in the triangle: an end in square 1 comes before it, one in the noise channel after it. */
@@ -45,7 +83,7 @@ static void test_order_of_channels(void)
     plain_setup(&s, bank);
     use_channel(&s, HEM_TRIANGLE, BYTES(0xB0, 0x2A, 0xA0));
     use_channel(&s, HEM_NOISE, BYTES(0xB0, 0x04, 0x00));
-    expect_verdict(&s, HEM_NO_COMMAND, HEM_TRIANGLE, 2, 6);
+    expect_fault(&s, HEM_NO_COMMAND, HEM_TRIANGLE, 2, 6, 0x9202);
     use_channel(&s, HEM_SQUARE_1, BYTES(0xB0, 0x2A, 0x00));
     expect_pass(&s, 6, HEM_SQUARE_1);
 }
@@ -58,12 +96,12 @@ static void test_edges(void)
     use_channel(&s, HEM_TRIANGLE, BYTES(0xB8, 0x2A, 0x00));
     expect_pass(&s, 6, HEM_TRIANGLE);
     use_channel(&s, HEM_TRIANGLE, BYTES(0xB9, 0x2A, 0x00));
-    expect_verdict(&s, HEM_LENGTH_OUTSIDE, HEM_TRIANGLE, 0, 0);
+    expect_fault(&s, HEM_LENGTH_OUTSIDE, HEM_TRIANGLE, 0, 0, 0x9200);
     plain_setup(&s, bank);
     name_channel(&s, HEM_TRIANGLE, AFTER_BANK - 1);
     expect_pass(&s, 0, HEM_TRIANGLE);
     *byte_at(&s, AFTER_BANK - 1) = 0xB0;
-    expect_verdict(&s, HEM_PAST_DATA, HEM_TRIANGLE, 1, 0);
+    expect_fault(&s, HEM_PAST_DATA, HEM_TRIANGLE, 1, 0, 0xC000);
 }
 
 static void test_extremes(void)
@@ -78,12 +116,106 @@ static void test_extremes(void)
     }
     plain_setup(&s, bank);
     most_commands(&s, HEM_SQUARE_1);
-    expect_verdict(&s, HEM_PAST_DATA, HEM_SQUARE_1, 256, 0);
+    expect_fault(&s, HEM_PAST_DATA, HEM_SQUARE_1, 256, 0, 0x9100);
     EXPECT(hem_start(&player, SETUP(&s)) == HEM_OK);
     EXPECT(hem_frame(&player, SETUP(&s), answer, HEM_ANSWER_WORDS) == HEM_PAST_DATA);
-    EXPECT(answer[HEM_ANSWER_KIND] == HEM_REFUSED);
     EXPECT(answer[HEM_ANSWER_COUNTS + HEM_SQUARE_1] == 32896);
-    EXPECT(answer[HEM_ANSWER_CHANNEL] == HEM_SQUARE_1 && answer[HEM_ANSWER_OFFSET] == 256);
+}
+
+/* L 1 is 2 frames, L 2 a length of 0, L 9 outside. 12 and 13 name the set-length command, 11 the byte behind it. */
+static void test_fault_places(void)
+{
+    static const struct {
+        int channel;
+        uint8_t bytes[3];
+        uint32_t number, offset, frame, address;
+    } places[] = {
+        { HEM_SQUARE_1, { 0xB1, 0x2A, 0xA0 }, HEM_NO_COMMAND, 2, 2, 0x9002 },
+        { HEM_SQUARE_2, { 0xB1, 0x2A, 0x03 }, HEM_NO_SUCH_KEY, 2, 2, 0x9102 },
+        { HEM_TRIANGLE, { 0xFF, 0xB1, 0x81 }, HEM_NO_SUCH_KEY, 2, 0, 0x9202 },
+        { HEM_NOISE, { 0xFF, 0xB9, 0x04 }, HEM_LENGTH_OUTSIDE, 1, 0, 0x9301 },
+        { HEM_TRIANGLE, { 0xFF, 0xB2, 0x2A }, HEM_LENGTH_ZERO, 1, 0, 0x9201 },
+        { HEM_NOISE, { 0xC1, 0x04, 0x00 }, HEM_NO_LENGTH_YET, 1, 0, 0x9301 },
+    };
+    for (size_t i = 0; i < sizeof places / sizeof places[0]; i++) {
+        setup s;
+        plain_setup(&s, bank);
+        header_of(&s)[WINDOW] = 0x1F;
+        *byte_at(&s, s.places.note_lengths + 0x1F + 2) = 0;
+        use_channel(&s, places[i].channel, places[i].bytes, sizeof places[i].bytes);
+        expect_fault(&s, places[i].number, (uint32_t)places[i].channel, places[i].offset, places[i].frame,
+                     places[i].address);
+    }
+}
+
+/* Data without an end, and a set-length command as its last byte: start + 256 or the bank's end. */
+static void test_past_data(void)
+{
+    setup s;
+    plain_setup(&s, bank);
+    memset(byte_at(&s, 0x9200), 0xFF, HEM_DATA_LIMIT);
+    name_channel(&s, HEM_TRIANGLE, 0x9200);
+    expect_fault(&s, HEM_PAST_DATA, HEM_TRIANGLE, 256, 0, 0x9300);
+    *byte_at(&s, 0x92FF) = 0xB0;
+    expect_fault(&s, HEM_PAST_DATA, HEM_TRIANGLE, 256, 0, 0x9300);
+    memset(byte_at(&s, 0xBEFF), 0xFF, AFTER_BANK - 0xBEFF);
+    name_channel(&s, HEM_TRIANGLE, 0xBEFF);
+    expect_fault(&s, HEM_PAST_DATA, HEM_TRIANGLE, 256, 0, 0xBFFF);
+    name_channel(&s, HEM_TRIANGLE, 0xBF00);
+    expect_fault(&s, HEM_PAST_DATA, HEM_TRIANGLE, 256, 0, 0xC000);
+    name_channel(&s, HEM_TRIANGLE, 0xBF01);
+    expect_fault(&s, HEM_PAST_DATA, HEM_TRIANGLE, 255, 0, 0xC000);
+}
+
+/* Two channels with a fault each: the address is of the one that is met. */
+static void test_fault_of_second(void)
+{
+    setup s;
+    plain_setup(&s, bank);
+    use_channel(&s, HEM_SQUARE_1, BYTES(0xB1, 0x2A, 0xA0));
+    use_channel(&s, HEM_TRIANGLE, BYTES(0xB0, 0x2A, 0x03));
+    expect_fault(&s, HEM_NO_SUCH_KEY, HEM_TRIANGLE, 2, 6, 0x9202);
+    use_channel(&s, HEM_TRIANGLE, BYTES(0xB1, 0x2A, 0x03));
+    expect_fault(&s, HEM_NO_COMMAND, HEM_SQUARE_1, 2, 12, 0x9002);
+}
+
+/* Records that stand or jump behind the data of one byte: the address is not cut. */
+static void test_record_past_data(void)
+{
+    static const struct {
+        hem_channel record;
+        uint32_t offset, address;
+    } places[] = {
+        { { 1, 0, 0, 0, 0, 0 }, 1, 0xC000 },
+        { { 2, 0, 0, 0, 0, 0 }, 2, 0xC001 },
+        { { 256, 0, 0, 0, 0, 0 }, 256, 0xC0FF },
+        { { 0, 256, 1, 0, 0, 0 }, 256, 0xC0FF },
+    };
+    setup s;
+    plain_setup(&s, bank);
+    name_channel(&s, HEM_TRIANGLE, AFTER_BANK - 1);
+    *byte_at(&s, AFTER_BANK - 1) = 0xFF;
+    for (size_t i = 0; i < sizeof places / sizeof places[0]; i++) {
+        hem_player player = { .channels = { [HEM_TRIANGLE] = places[i].record } };
+        expect_frame(&s, &player, HEM_PAST_DATA, HEM_REFUSED, HEM_TRIANGLE, places[i].offset, places[i].address);
+    }
+}
+
+/* Events, end, stopped, 16 and 1 to 9 tell no place. */
+static void test_no_place(void)
+{
+    hem_player player;
+    setup s;
+    plain_setup(&s, bank);
+    use_channel(&s, HEM_TRIANGLE, BYTES(0xB0, 0x2A, 0x00));
+    EXPECT(hem_start(&player, SETUP(&s)) == HEM_OK);
+    expect_events(&s, &player, 6);
+    expect_frame(&s, &player, HEM_OK, HEM_END, 0, 0, 0);
+    expect_frame(&s, &player, HEM_OK, HEM_STOPPED, 0, 0, 0);
+    player.channels[HEM_TRIANGLE].next = HEM_DATA_LIMIT + 1;
+    expect_frame(&s, &player, HEM_BAD_RECORD, HEM_REFUSED, 0, 0, 0);
+    s.track = HEM_PUBLISHED_TRACK_COUNT;
+    expect_frame(&s, &player, HEM_BAD_TRACK, HEM_REFUSED, 0, 0, 0);
 }
 
 /* Square 1 with default B3 and envelope 04 02 FF, square 2 with default 0 and the same, a dynamic release, a preset. */
@@ -117,10 +249,15 @@ static void test_events(void)
 
 void test_samples(void)
 {
-    begin_part("samples", 65);
+    begin_part("samples", 314);
     test_triangles();
     test_order_of_channels();
     test_edges();
     test_extremes();
+    test_fault_places();
+    test_past_data();
+    test_fault_of_second();
+    test_record_past_data();
+    test_no_place();
     test_events();
 }

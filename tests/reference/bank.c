@@ -143,3 +143,8 @@ uint32_t ref_open(const uint8_t *bank, size_t len, const ref_places *places, uin
     *out = opened;
     return 0;
 }
+
+uint32_t ref_address_of(const ref_track *track, int channel, uint32_t offset)
+{
+    return track->address[channel] + offset;
+}

@@ -3,7 +3,7 @@
 
 static ref_verdict refused(uint32_t number)
 {
-    ref_verdict v = { number, 0, 0, 0 };
+    ref_verdict v = { number, 0, 0, 0, 0 };
     return v;
 }
 
@@ -27,11 +27,12 @@ ref_verdict ref_check_by_frames(const uint8_t *bank, size_t len, const ref_place
     for (uint64_t frame = 0;; frame++) {
         number = ref_frame(&p, bank, len, places, track, answer);
         if (number != 0) {
-            ref_verdict v = { number, answer[REF_ANSWER_CHANNEL], answer[REF_ANSWER_OFFSET], frame };
+            ref_verdict v = { number, answer[REF_ANSWER_CHANNEL], answer[REF_ANSWER_OFFSET], frame,
+                              answer[REF_ANSWER_ADDRESS] };
             return v;
         }
         if (answer[0] == REF_END) {
-            ref_verdict v = { 0, channel_of_end(answer), 0, frame };
+            ref_verdict v = { 0, channel_of_end(answer), 0, frame, 0 };
             return v;
         }
     }
@@ -53,10 +54,11 @@ ref_verdict ref_check_by_channels(const uint8_t *bank, size_t len, const ref_pla
         if (found && line.frames >= best.frame)
             continue;
         found = 1;
-        best.number = line.number;
-        best.channel = (uint32_t)i;
-        best.offset = line.number != 0 ? line.offset : 0;
-        best.frame = line.frames;
+        best = (ref_verdict){ .number = line.number, .channel = (uint32_t)i, .frame = line.frames };
+        if (line.number != 0) {
+            best.offset = line.offset;
+            best.address = ref_address_of(&opened, i, line.offset);
+        }
     }
     return best;
 }

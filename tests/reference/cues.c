@@ -11,8 +11,8 @@ void ref_print_verdict(FILE *out, uint32_t track, const ref_verdict *v)
     else if (v->number <= REF_NO_CHANNEL)
         fprintf(out, " refuse %" PRIu32 "\n", v->number);
     else
-        fprintf(out, " refuse %" PRIu32 " %" PRIu32 " %" PRIu32 " %" PRIu64 "\n", v->number, v->channel,
-                v->offset, v->frame);
+        fprintf(out, " refuse %" PRIu32 " %" PRIu32 " %" PRIu32 " %" PRIu64 " %04" PRIx32 "\n", v->number,
+                v->channel, v->offset, v->frame, v->address);
 }
 
 void ref_print_cues(FILE *out, const uint8_t *bytes, size_t len)

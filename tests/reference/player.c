@@ -107,12 +107,18 @@ static void tell(const ref_track *track, int channel, const ref_channel *ch, int
         part[4] = CTRL_SILENT;
 }
 
-static uint32_t refuse(uint32_t *answer, uint32_t number, uint32_t channel, uint32_t offset)
+static uint32_t refuse(uint32_t *answer, uint32_t number)
 {
     answer[0] = REF_REFUSED;
-    answer[REF_ANSWER_CHANNEL] = channel;
-    answer[REF_ANSWER_OFFSET] = offset;
     return number;
+}
+
+static uint32_t refuse_at(uint32_t *answer, uint32_t number, const ref_track *track, int channel, uint32_t offset)
+{
+    answer[REF_ANSWER_CHANNEL] = (uint32_t)channel;
+    answer[REF_ANSWER_OFFSET] = offset;
+    answer[REF_ANSWER_ADDRESS] = ref_address_of(track, channel, offset);
+    return refuse(answer, number);
 }
 
 /* The reading part of a frame. The record is stored only with events or an end. */
@@ -131,7 +137,7 @@ static uint32_t run_frame(ref_player *p, const ref_track *track, uint32_t *answe
             uint32_t number = ref_read_until(ref_kind_of(i), track->data[i], track->data_len[i], track->lengths,
                                              track->t, ch, &ended, &offset, &answer[REF_ANSWER_COUNTS + i]);
             if (number != 0)
-                return refuse(answer, number, (uint32_t)i, offset);
+                return refuse_at(answer, number, track, i, offset);
             if (ended) {
                 *p = fresh();
                 p->stopped = track->restart == 0;
@@ -156,9 +162,9 @@ uint32_t ref_frame(ref_player *p, const uint8_t *bank, size_t len, const ref_pla
     memset(answer, 0, REF_ANSWER_WORDS * sizeof answer[0]);
     uint32_t number = ref_open(bank, len, places, track, &opened);
     if (number != 0)
-        return refuse(answer, number, 0, 0);
+        return refuse(answer, number);
     if (!record_is_good(&opened, p))
-        return refuse(answer, REF_BAD_RECORD, 0, 0);
+        return refuse(answer, REF_BAD_RECORD);
     if (p->stopped != 0) {
         answer[0] = REF_STOPPED;
         return 0;

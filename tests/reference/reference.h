@@ -19,7 +19,7 @@
 
 #define REF_DATA_LIMIT 256u
 #define REF_LENGTH_COUNT 40u
-#define REF_ANSWER_WORDS 27
+#define REF_ANSWER_WORDS 28
 
 /* Numbers of refusal. */
 enum {
@@ -92,6 +92,8 @@ typedef struct {
 ref_places ref_published_places(void);
 /* Numbers 1 to 9, or 0. *out is filled on 0 only. */
 uint32_t ref_open(const uint8_t *bank, size_t len, const ref_places *places, uint32_t track, ref_track *out);
+/* The address of the byte at the offset from the channel's start, also where the data or the bank ends before it. */
+uint32_t ref_address_of(const ref_track *track, int channel, uint32_t offset);
 
 typedef struct { uint16_t next, loop_start; uint8_t counter, length, left, sounding; } ref_channel;
 typedef struct { uint8_t stopped; ref_channel channels[REF_CHANNELS]; } ref_player;
@@ -116,15 +118,16 @@ enum { REF_OFF = 0, REF_REST = 1, REF_NOTE = 2 };
 #define REF_ANSWER_COUNTS 1
 #define REF_ANSWER_CHANNEL 5
 #define REF_ANSWER_OFFSET 6
-#define REF_ANSWER_PARTS 7
+#define REF_ANSWER_ADDRESS 7
+#define REF_ANSWER_PARTS 8
 #define REF_PART_WORDS 5
 #define REF_RELEASE_NEVER 255u
 
 uint32_t ref_frame(ref_player *p, const uint8_t *bank, size_t len, const ref_places *places, uint32_t track,
                    uint32_t answer[REF_ANSWER_WORDS]);
 
-/* number 0: pass, with frame and channel of the first end, and offset 0 */
-typedef struct { uint32_t number; uint32_t channel, offset; uint64_t frame; } ref_verdict;
+/* number 0: pass, with frame and channel of the first end, and offset and address 0 */
+typedef struct { uint32_t number; uint32_t channel, offset; uint64_t frame; uint32_t address; } ref_verdict;
 /* By running start and the frames one by one. */
 ref_verdict ref_check_by_frames(const uint8_t *bank, size_t len, const ref_places *places, uint32_t track);
 /* By each used channel's walk: the least frame, then the first channel. */

@@ -5,7 +5,7 @@
 #include <string.h>
 
 /* Fewer would say that some of the tests did not run. */
-#define LEAST_CHECKS 400000u
+#define LEAST_CHECKS 440000u
 
 static const char zero_bank_lines[] =
     "0 refuse 9\n1 refuse 9\n2 refuse 9\n3 refuse 9\n4 refuse 9\n5 refuse 9\n"
@@ -36,20 +36,38 @@ static void test_cues(void)
 }
 
 /* All twelve offsets are 0, so each line tells the same track. */
+static void expect_cue(const cart *c, const char *tail)
+{
+    char wanted[1024];
+    size_t n = 0;
+    for (int track = 0; track < 12; track++)
+        n += (size_t)snprintf(wanted + n, sizeof wanted - n, "%d %s\n", track, tail);
+    expect_cues(c->bytes, REF_BANK_SIZE, wanted);
+}
+
 static void test_cue_lines(void)
 {
-    static const char *const data[2] = { "B0 2A 00", "B0 2A A0" };
-    static const char *const tails[2] = { "pass 6 2", "refuse 10 2 2 6" };
-    for (int i = 0; i < 2; i++) {
-        char wanted[1024];
-        size_t n = 0;
-        cart *c = new_cart();
-        use_channel(c, REF_TRIANGLE, data[i]);
-        for (int track = 0; track < 12; track++)
-            n += (size_t)snprintf(wanted + n, sizeof wanted - n, "%d %s\n", track, tails[i]);
-        expect_cues(c->bytes, REF_BANK_SIZE, wanted);
-        free(c);
-    }
+    cart *c = new_cart();
+    use_channel(c, REF_TRIANGLE, "B0 2A 00");
+    expect_cue(c, "pass 6 2");
+    use_channel(c, REF_TRIANGLE, "B0 2A A0");
+    expect_cue(c, "refuse 10 2 2 6 9402");
+    set_address(c, REF_TRIANGLE, LAST_ADDRESS);
+    *cart_at(c, LAST_ADDRESS) = 0xB0;
+    expect_cue(c, "refuse 15 2 1 0 c000");
+    free(c);
+}
+
+/* 256 bytes up to the bank's last: notes of 64 and 32 frames by window 0, whose lengths stand before the data. */
+static void test_cue_of_full_data(void)
+{
+    cart *c = new_cart();
+    memset(cart_at(c, 0xBF00), 0xFF, REF_DATA_LIMIT);
+    put_hex(c, 0xBF00, "B4 2A B3 2C");
+    set_address(c, REF_TRIANGLE, 0xBF00);
+    cart_header(c)[HEADER_WINDOW] = 0;
+    expect_cue(c, "refuse 15 2 256 96 c000");
+    free(c);
 }
 
 int main(void)
@@ -57,8 +75,10 @@ int main(void)
     test_samples();
     test_published();
     test_refusals();
+    test_addresses();
     test_cues();
     test_cue_lines();
+    test_cue_of_full_data();
     test_random();
     CHECK(checks_run >= LEAST_CHECKS);
     printf("selftest: %u checks, %u failed\n", checks_run, checks_failed);

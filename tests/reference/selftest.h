@@ -41,15 +41,18 @@ uint8_t preset_byte(unsigned offset);
 int same_record(const ref_player *a, const ref_player *b);
 int same_verdict(const ref_verdict *a, const ref_verdict *b);
 void expect_pass(cart *c, uint64_t frame, uint32_t channel);
-void expect_fault(cart *c, uint32_t number, uint32_t channel, uint32_t offset, uint64_t frame);
+void expect_fault(cart *c, uint32_t number, uint32_t channel, uint32_t offset, uint64_t frame, uint32_t address);
 /* Runs start and frames 0 to n; the answer is frame n's. */
 uint32_t frame_after(cart *c, uint64_t n, ref_player *p, uint32_t *answer);
+/* What the answer says of a fault's place; three zeros of no fault. */
+int place_is(const uint32_t *answer, uint32_t channel, uint32_t offset, uint32_t address);
 
 uint32_t random_below(uint32_t limit);
 
 void test_samples(void);
 void test_published(void);
 void test_refusals(void);
+void test_addresses(void);
 void test_random(void);
 
 #endif

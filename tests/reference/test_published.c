@@ -91,7 +91,7 @@ static void test_second_example(void)
     CHECK(frame_after(c, 6, &p, answer) == 0);
     CHECK(part[4] == 5);
     use_channel(c, REF_TRIANGLE, "C0 38 3A 00");
-    expect_fault(c, REF_NO_LENGTH_YET, REF_TRIANGLE, 1, 0);
+    expect_fault(c, REF_NO_LENGTH_YET, REF_TRIANGLE, 1, 0, 0x9401);
     free(c);
 }
 

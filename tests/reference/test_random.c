@@ -104,8 +104,21 @@ static cart *random_cart(void)
     return c;
 }
 
-/* How often each number and each kind of answer came, to see that the tracks and records are of many sorts. */
-static unsigned verdicts[REF_NO_ROOM + 1], answers[REF_REFUSED + 1];
+/* How often each number and each kind of answer came, and an address at the bank's end and behind it, to see that the
+   tracks and records are of many sorts. */
+static unsigned verdicts[REF_NO_ROOM + 1], answers[REF_REFUSED + 1], at_bank_end, past_bank_end;
+
+/* A fault's address is the header's word of its channel plus the offset; without a fault there is none. */
+static void check_address(cart *c, uint32_t number, uint32_t channel, uint32_t offset, uint32_t address)
+{
+    const uint8_t *word = cart_header(c) + HEADER_ADDRESSES + 2 * channel;
+    if (number >= REF_NO_COMMAND && number <= REF_PAST_DATA)
+        CHECK(address == word[0] + 256u * word[1] + offset);
+    else
+        CHECK(address == 0);
+    at_bank_end += address == REF_BANK_END;
+    past_bank_end += address > REF_BANK_END;
+}
 
 static void print_refusals(void)
 {
@@ -122,6 +135,7 @@ static void test_checks_agree(void)
         ref_verdict by_frames = ref_check_by_frames(c->bytes, REF_BANK_SIZE, &c->places, 0);
         ref_verdict by_channels = ref_check_by_channels(c->bytes, REF_BANK_SIZE, &c->places, 0);
         CHECK(same_verdict(&by_frames, &by_channels));
+        check_address(c, by_frames.number, by_frames.channel, by_frames.offset, by_frames.address);
         verdicts[by_frames.number]++;
         if (by_frames.frame > longest)
             longest = by_frames.frame;
@@ -133,6 +147,7 @@ static void test_checks_agree(void)
     CHECK(verdicts[0] > 1000);
     for (int number = REF_NO_COMMAND; number <= REF_PAST_DATA; number++)
         CHECK(verdicts[number] > 100);
+    CHECK(at_bank_end > 100 && past_bank_end == 0);
 }
 
 static ref_channel random_channel(ref_kind kind)
@@ -155,6 +170,7 @@ static void test_one_record(cart *c, const ref_player *given)
     uint32_t number = ref_frame(&p, c->bytes, REF_BANK_SIZE, &c->places, 0, answer);
     CHECK((answer[0] == REF_REFUSED) == (number != 0));
     CHECK(number == 0 || (number >= REF_NO_COMMAND && number <= REF_BAD_RECORD));
+    check_address(c, number, answer[REF_ANSWER_CHANNEL], answer[REF_ANSWER_OFFSET], answer[REF_ANSWER_ADDRESS]);
     if (number != 0 || answer[0] == REF_STOPPED)
         CHECK(same_record(&p, given));
     if (answer[0] == REF_END) {
@@ -190,6 +206,7 @@ static void test_records(void)
     for (int number = REF_NO_COMMAND; number <= REF_PAST_DATA; number++)
         CHECK(verdicts[number] > 0);
     CHECK(verdicts[REF_BAD_RECORD] > 1000);
+    CHECK(past_bank_end > 10);
 }
 
 /* Data that reads, written again, gives the same bytes up to and including its end. Whether it reads. */

@@ -10,7 +10,7 @@ static void expect_number(cart *c, size_t len, uint32_t track, uint32_t number)
     ref_player given = { .stopped = 7, .channels = { { 300, 300, 1, 2, 3, 4 } } };
     ref_player p = given;
     ref_player fresh = {0};
-    ref_verdict wanted = { number, 0, 0, 0 };
+    ref_verdict wanted = { number, 0, 0, 0, 0 };
     uint32_t answer[REF_ANSWER_WORDS];
     CHECK(ref_frame(&p, c->bytes, len, &c->places, track, answer) == number);
     CHECK(same_record(&p, &given));

@@ -24,11 +24,11 @@ static void triangle_passes(const char *hex, uint64_t frame)
     free(c);
 }
 
-static void triangle_faults(const char *hex, uint32_t number, uint32_t offset, uint64_t frame)
+static void triangle_faults(const char *hex, uint32_t number, uint32_t offset, uint64_t frame, uint32_t address)
 {
     cart *c = new_cart();
     use_channel(c, REF_TRIANGLE, hex);
-    expect_fault(c, number, REF_TRIANGLE, offset, frame);
+    expect_fault(c, number, REF_TRIANGLE, offset, frame, address);
     free(c);
 }
 
@@ -39,9 +39,9 @@ static void test_verdicts(void)
     triangle_passes("C0 B0 2A FF 00", 1536);
     triangle_passes("FF 00", 0);
     triangle_passes("B0 00 00", 6);
-    triangle_faults("2A 00", REF_NO_LENGTH_YET, 0, 0);
-    triangle_faults("B0 81", REF_NO_SUCH_KEY, 1, 0);
-    triangle_faults("B0 2A A0", REF_NO_COMMAND, 2, 6);
+    triangle_faults("2A 00", REF_NO_LENGTH_YET, 0, 0, 0x9400);
+    triangle_faults("B0 81", REF_NO_SUCH_KEY, 1, 0, 0x9401);
+    triangle_faults("B0 2A A0", REF_NO_COMMAND, 2, 6, 0x9402);
 }
 
 /* Key $15, release 20 quarter-frames, in each of the note's six frames. */
@@ -55,17 +55,17 @@ static void test_one_note(void)
     for (uint64_t n = 0; n < 6; n++) {
         CHECK(frame_after(c, n, &p, answer) == 0);
         CHECK(answer[0] == REF_EVENTS);
-        CHECK(answer[1 + REF_TRIANGLE] == (n == 0 ? 1u : 0u));
+        CHECK(answer[1 + REF_TRIANGLE] == (n == 0 ? 1u : 0u) && place_is(answer, 0, 0, 0));
         CHECK(part_is(answer, REF_TRIANGLE, REF_NOTE, n == 0, 0x15, period_of_key(0x15), 20));
         CHECK(part_is(answer, 0, REF_OFF, 0, 0, 0, 0));
         CHECK(p.channels[REF_TRIANGLE].left == 5 - n);
     }
     CHECK(frame_after(c, 6, &p, answer) == 0);
-    CHECK(answer[0] == REF_END && answer[1 + REF_TRIANGLE] == 1);
+    CHECK(answer[0] == REF_END && answer[1 + REF_TRIANGLE] == 1 && place_is(answer, 0, 0, 0));
     CHECK(part_is(answer, REF_TRIANGLE, REF_OFF, 0, 0, 0, 0));
     CHECK(same_record(&p, &stopped));
     CHECK(frame_after(c, 7, &p, answer) == 0);
-    CHECK(answer[0] == REF_STOPPED && answer[1 + REF_TRIANGLE] == 0);
+    CHECK(answer[0] == REF_STOPPED && answer[1 + REF_TRIANGLE] == 0 && place_is(answer, 0, 0, 0));
     CHECK(same_record(&p, &stopped));
     free(c);
 }
@@ -129,13 +129,13 @@ static void test_same_frame(void)
     CHECK(answer[0] == REF_END && answer[1] == 1 && answer[3] == 0);
     set_address(c, 0, 0);
     use_channel(c, REF_NOISE_CHANNEL, "B0 04 00");
-    expect_fault(c, REF_NO_COMMAND, REF_TRIANGLE, 2, 6);
+    expect_fault(c, REF_NO_COMMAND, REF_TRIANGLE, 2, 6, 0x9402);
     CHECK(frame_after(c, 5, &before, answer) == 0);
     CHECK(part_is(answer, REF_NOISE_CHANNEL, REF_NOTE, 0, preset_byte(4), preset_byte(5), preset_byte(6)));
     for (uint64_t n = 6; n < 9; n++) {
         CHECK(frame_after(c, n, &p, answer) == REF_NO_COMMAND);
         CHECK(answer[0] == REF_REFUSED && answer[3] == 0 && answer[4] == 0);
-        CHECK(answer[5] == REF_TRIANGLE && answer[6] == 2);
+        CHECK(place_is(answer, REF_TRIANGLE, 2, 0x9402));
         CHECK(same_record(&p, &before));
     }
     free(c);
@@ -148,7 +148,7 @@ static void test_window_end(void)
     use_channel(c, REF_TRIANGLE, "B8 2A 00");
     expect_pass(c, 6, REF_TRIANGLE);
     use_channel(c, REF_TRIANGLE, "B9 2A 00");
-    expect_fault(c, REF_LENGTH_OUTSIDE, REF_TRIANGLE, 0, 0);
+    expect_fault(c, REF_LENGTH_OUTSIDE, REF_TRIANGLE, 0, 0, 0x9400);
     free(c);
 }
 
@@ -159,7 +159,7 @@ static void test_last_byte(void)
     *cart_at(c, LAST_ADDRESS) = 0x00;
     expect_pass(c, 0, REF_TRIANGLE);
     *cart_at(c, LAST_ADDRESS) = 0xB0;
-    expect_fault(c, REF_PAST_DATA, REF_TRIANGLE, 1, 0);
+    expect_fault(c, REF_PAST_DATA, REF_TRIANGLE, 1, 0, 0xC000);
     free(c);
 }
 
@@ -197,9 +197,9 @@ static void test_many_commands(void)
         *cart_at(c, DATA_ADDRESS(0) + 2 * i + 1) = 0xFF;
     }
     set_address(c, 0, (uint16_t)DATA_ADDRESS(0));
-    expect_fault(c, REF_PAST_DATA, 0, 256, 0);
+    expect_fault(c, REF_PAST_DATA, 0, 256, 0, 0x9100);
     CHECK(frame_after(c, 0, &p, answer) == REF_PAST_DATA);
-    CHECK(answer[0] == REF_REFUSED && answer[1] == 32896 && answer[5] == 0 && answer[6] == 256);
+    CHECK(answer[0] == REF_REFUSED && answer[1] == 32896 && place_is(answer, 0, 256, 0x9100));
     CHECK(same_record(&p, &fresh));
     free(c);
 }

@@ -112,7 +112,7 @@ int same_record(const ref_player *a, const ref_player *b)
 int same_verdict(const ref_verdict *a, const ref_verdict *b)
 {
     return a->number == b->number && a->channel == b->channel && a->offset == b->offset
-        && a->frame == b->frame;
+        && a->frame == b->frame && a->address == b->address;
 }
 
 static void expect_verdict(cart *c, ref_verdict wanted)
@@ -125,13 +125,13 @@ static void expect_verdict(cart *c, ref_verdict wanted)
 
 void expect_pass(cart *c, uint64_t frame, uint32_t channel)
 {
-    ref_verdict wanted = { 0, channel, 0, frame };
+    ref_verdict wanted = { 0, channel, 0, frame, 0 };
     expect_verdict(c, wanted);
 }
 
-void expect_fault(cart *c, uint32_t number, uint32_t channel, uint32_t offset, uint64_t frame)
+void expect_fault(cart *c, uint32_t number, uint32_t channel, uint32_t offset, uint64_t frame, uint32_t address)
 {
-    ref_verdict wanted = { number, channel, offset, frame };
+    ref_verdict wanted = { number, channel, offset, frame, address };
     expect_verdict(c, wanted);
 }
 
@@ -141,6 +141,12 @@ uint32_t frame_after(cart *c, uint64_t n, ref_player *p, uint32_t *answer)
     for (uint64_t i = 0; i <= n; i++)
         number = ref_frame(p, c->bytes, REF_BANK_SIZE, &c->places, 0, answer);
     return number;
+}
+
+int place_is(const uint32_t *answer, uint32_t channel, uint32_t offset, uint32_t address)
+{
+    return answer[REF_ANSWER_CHANNEL] == channel && answer[REF_ANSWER_OFFSET] == offset
+        && answer[REF_ANSWER_ADDRESS] == address;
 }
 
 /* A fixed sequence, so that a failure comes again. */

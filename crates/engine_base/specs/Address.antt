@@ -16,6 +16,10 @@ bank-end = 0xc000
 abbrev pub offsetOf : ℕ → ℕ
 offsetOf address = address - bank-start
 
+-- the address of an offset in the bank
+abbrev pub addressOf : ℕ → ℕ
+addressOf offset = bank-start + offset
+
 -- n bytes from an address stand wholly within the bank
 unfoldable pub within : ℕ → ℕ → Bool
 within address n = all (leb bank-start address ∷ leb (address + n) bank-end ∷ [])

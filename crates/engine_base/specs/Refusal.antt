@@ -1,5 +1,6 @@
 -- Document 01, 'Numbers of refusal'.
-use Prim.Native.Nat.{ℕ, _≤_}
+use Prim.Native.Nat.{ℕ, _+_, _≤_}
+use mathlib.Core.Path.{_≡_}
 
 -- bank is not 16,384 bytes
 abbrev pub wrong-size : ℕ
@@ -81,3 +82,7 @@ Unopened number = (wrong-size ≤ number) × (number ≤ no-channel)
 -- 10 to 15: a channel's data are refused, at an offset within a limit
 abbrev pub FaultWithin : ℕ → ℕ → ℕ → Type 0
 FaultWithin limit number at = (invalid-command ≤ number) × (number ≤ past-data) × (at ≤ limit)
+
+-- and they name the address: that of the data's start plus the offset
+abbrev pub FaultAt : ℕ → ℕ → ℕ → ℕ → ℕ → Type 0
+FaultAt start limit number at address = FaultWithin limit number at × (address ≡ start + at)

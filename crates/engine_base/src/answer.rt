@@ -8,8 +8,8 @@ pub enum Answer {
     Stopped,
     // a number that has no place in a channel
     Refused(u32),
-    // a number, the channel and the offset of the byte
-    Fault(u32, usize, usize),
+    // a number, the channel, the offset of the byte and its address
+    Fault(u32, usize, u16, u32),
 }
 
 // The refusal of an answer, or 0.
@@ -21,7 +21,7 @@ pub fn number_of(answer: Answer) -> u32
         Answer::End => 0,
         Answer::Stopped => 0,
         Answer::Refused(number) => number,
-        Answer::Fault(number, _, _) => number,
+        Answer::Fault(number, _, _, _) => number,
     }
 }
 
@@ -34,6 +34,6 @@ pub fn kind_of(answer: Answer) -> u32
         Answer::End => 1,
         Answer::Stopped => 2,
         Answer::Refused(_) => 3,
-        Answer::Fault(_, _, _) => 3,
+        Answer::Fault(_, _, _, _) => 3,
     }
 }

@@ -1,9 +1,8 @@
--- Channels, counts and offsets are words of 32 bits.
+-- Channels, counts and offsets of words are words of 32 bits.
 use Prim.Native.Nat.{ℕ, _≤_, _<_}
 use native.Mathlib.Omega.{arith}
 use mir.Syntax.{w32}
 use mir.Val.{Fits}
-use Rattle.engine_base.specs.Refusal.{FaultWithin}
 use Rattle.metroid_format.specs.Command.{data-limit}
 
 pub channel-fits : {i : ℕ} → i < 4 → Fits w32 i
@@ -11,6 +10,3 @@ channel-fits h = record { fits = omega arith }
 
 pub count-fits : {n : ℕ} → n ≤ data-limit → Fits w32 n
 count-fits h = record { fits = omega arith }
-
-pub offset-fits : {number at : ℕ} → FaultWithin data-limit number at → Fits w32 at
-offset-fits (low, high, h) = count-fits h

@@ -3,6 +3,7 @@ use crate::places;
 use engine_base::buffer;
 use metroid_check::verdict;
 use metroid_check::verdict::Verdict;
+ghost use Prim.Native.Nat.{ℕ};
 ghost use Rattle.metroid_check.specs.Verdict.{toldVerdict, VerdictWithin};
 ghost use Rattle.hemgosling.specs.Places.{placesOf};
 ghost use Rattle.hemgosling.specs.Tell.{Tells};
@@ -10,7 +11,7 @@ ghost use Rattle.hemgosling.specs.Judge.{Judges};
 
 // The number, and the values into the buffer as far as they fit.
 fn tell(verdict: Verdict, out: &mut [u32]) -> u32
-    requires { ⌜ VerdictWithin verdict ⌝ }
+    requires { ⌜ ((start : ℕ → ℕ) × VerdictWithin start verdict) ⌝ }
     ensures { λ r. ⌜ Tells (toldVerdict verdict) (now (out .entry)) r (now (out .exit)) ⌝ }
 {
     match verdict {
@@ -19,8 +20,8 @@ fn tell(verdict: Verdict, out: &mut [u32]) -> u32
             0
         }
         Verdict::Refused(number) => number,
-        Verdict::Fault(number, channel, at, frame) => {
-            buffer::fill32(out, 0, &[channel as u32, at as u32, frame]);
+        Verdict::Fault(number, channel, at, frame, address) => {
+            buffer::fill32(out, 0, &[channel as u32, at as u32, frame, address]);
             number
         }
     }

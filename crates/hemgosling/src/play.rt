@@ -7,6 +7,7 @@ use metroid_player::event;
 use metroid_player::event::Event;
 use metroid_player::frame::Started;
 use metroid_player::record::Player;
+ghost use Prim.Native.Nat.{ℕ};
 ghost use mathlib.Core.Path.{_≡_};
 ghost use mathlib.Core.List.{_∷_, _++_};
 ghost use lib.Seq.{sets};
@@ -18,11 +19,11 @@ ghost use Rattle.hemgosling.specs.Play.{Starts, Steps, steppedOf};
 // Where the commands read stand in an answer.
 const COUNTS: usize = 1;
 
-// Where the channel and the offset of a refusal stand.
+// Where the channel, the offset and the address of a refusal stand.
 const PLACE: usize = 5;
 
 // Where the words of the first channel stand.
-const EVENTS: usize = 7;
+const EVENTS: usize = 8;
 
 // The words of a channel.
 const EVENT_WORDS: usize = 5;
@@ -33,22 +34,22 @@ pub struct Stepped {
     pub player: Player,
 }
 
-fn place_of(answer: Answer) -> [u32; 2]
-    requires { ⌜ AnswerWithin 4 answer ⌝ }
+fn place_of(answer: Answer) -> [u32; 3]
+    requires { ⌜ ((start : ℕ → ℕ) × AnswerWithin start 4 answer) ⌝ }
     ensures { λ r. ⌜ r ≡ answerPlace answer ⌝ }
 {
     match answer {
-        Answer::Events => [0, 0],
-        Answer::End => [0, 0],
-        Answer::Stopped => [0, 0],
-        Answer::Refused(_) => [0, 0],
-        Answer::Fault(_, channel, at) => [channel as u32, at as u32],
+        Answer::Events => [0, 0, 0],
+        Answer::End => [0, 0, 0],
+        Answer::Stopped => [0, 0, 0],
+        Answer::Refused(_) => [0, 0, 0],
+        Answer::Fault(_, channel, at, address) => [channel as u32, at as u32, address],
     }
 }
 
 // The channels' words, in order.
 fn put_events(out: &mut [u32], events: [Event; 4])
-    ensures { λ _. ⌜ now (out .exit) ≡ sets (now (out .entry)) 7 (toldEvents events) ⌝ }
+    ensures { λ _. ⌜ now (out .exit) ≡ sets (now (out .entry)) 8 (toldEvents events) ⌝ }
 {
     let mut i: usize = 0;
     while i < 4 {
@@ -60,7 +61,7 @@ fn put_events(out: &mut [u32], events: [Event; 4])
 
 // The kind of the answer, the commands read, the place and the events.
 fn put_answer(out: &mut [u32], answer: Answer, counts: [u32; 4], events: [Event; 4])
-    requires { ⌜ AnswerWithin 4 answer ⌝ }
+    requires { ⌜ ((start : ℕ → ℕ) × AnswerWithin start 4 answer) ⌝ }
     ensures { λ _. ⌜ now (out .exit) ≡ sets (now (out .entry)) 0 (answerKind answer ∷ counts ++ (answerPlace answer ++ toldEvents events)) ⌝ }
 {
     buffer::fill32(out, 0, &[answer::kind_of(answer)]);

@@ -9,7 +9,7 @@ use lib.Dec.{eqb}
 use Rattle.engine_base.proofs.Picks.{answers}
 use Rattle.metroid_format.specs.Header.{openTrack}
 use Rattle.metroid_format.specs.declared.bank.Places.{Places}
-use Rattle.metroid_format.specs.declared.command.Finish.{Finish}
+use Rattle.metroid_format.specs.declared.timeline.Finish.{Finish}
 use Rattle.metroid_player.specs.Record.{freshPlayer}
 use Rattle.metroid_player.specs.Counts.{most-commands}
 use Rattle.metroid_player.specs.Frame.{startOf, frameOf, frameOfTrack}
@@ -35,7 +35,7 @@ from-start : (n m i : ℕ) (finish : Finish) →
     (endAhead 0 n i finish (stopping m) ≡ endForeseen n (verdictBy (Soonest.Stop m i finish))) ×
     (refusalAhead 0 n i finish (stopping m) ≡ refusalForeseen n (verdictBy (Soonest.Stop m i finish)))
 from-start n m i Finish.End = (rw zero-add, refl)
-from-start n m i (Finish.Refused number at) = (refl, rw zero-add)
+from-start n m i (Finish.Refused number at address) = (refl, rw zero-add)
 
 module _ (bank : List ℕ) (places : Places) (track : ℕ) where
   -- every frame opens the same track

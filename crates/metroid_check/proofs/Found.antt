@@ -11,7 +11,7 @@ use Rattle.engine_base.proofs.Picks.{by-test}
 use Rattle.metroid_format.specs.Timeline.{timelineOf}
 use Rattle.metroid_format.specs.declared.header.Voice.{Voice}
 use Rattle.metroid_format.specs.declared.header.Track.{Track}
-use Rattle.metroid_format.specs.declared.command.Finish.{Finish}
+use Rattle.metroid_format.specs.declared.timeline.Finish.{Finish}
 use Rattle.metroid_format.specs.Channel.{channelSource}
 use Rattle.metroid_check.proofs.ahead.Settling.{Ahead, nothing, stop}
 use Rattle.metroid_check.proofs.ahead.Starting.{SomeStop, aheadOf}

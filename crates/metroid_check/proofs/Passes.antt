@@ -44,8 +44,8 @@ module _ (bank : List ℕ) (places : Places) (track : ℕ) where
       firstRefusal (runOf bank places track n) ≡ shown (ofStart number)
   start-refused e n = shows-refusal e n
 
-  pub fault-reached : {number channel at frame : ℕ} → verdictOf bank places track ≡ Verdict.Fault number channel at frame →
-      (n : ℕ) → frame < n → firstRefusal (runOf bank places track n) ≡ shown (ofData number channel at frame)
+  pub fault-reached : {number channel at frame address : ℕ} → verdictOf bank places track ≡ Verdict.Fault number channel at frame address →
+      (n : ℕ) → frame < n → firstRefusal (runOf bank places track n) ≡ shown (ofData number channel at frame address)
   fault-reached {frame} e n h = shows-refusal e n ∙ reached n frame _ h
 
   -- a track that passes shows its end in every run that reaches the frame, so that some frame answers End
@@ -61,7 +61,7 @@ module _ (bank : List ℕ) (places : Places) (track : ℕ) where
       (firstEnd (runOf bank places track n) ≡ nothing) × (firstRefusal (runOf bank places track n) ≡ nothing)
   before-end {frame} e n h = (shows-end e n ∙ unreached n frame _ h, shows-refusal e n)
 
-  pub before-fault : {number channel at frame : ℕ} → verdictOf bank places track ≡ Verdict.Fault number channel at frame →
+  pub before-fault : {number channel at frame address : ℕ} → verdictOf bank places track ≡ Verdict.Fault number channel at frame address →
       (n : ℕ) → n ≤ frame →
       (firstEnd (runOf bank places track n) ≡ nothing) × (firstRefusal (runOf bank places track n) ≡ nothing)
   before-fault {frame} e n h = (shows-end e n, shows-refusal e n ∙ unreached n frame _ h)
@@ -69,7 +69,7 @@ module _ (bank : List ℕ) (places : Places) (track : ℕ) where
   never-passes : NeverRefused → (verdict : Verdict) → verdictOf bank places track ≡ verdict → Passes
   never-passes never (Verdict.Pass frame channel) e = (frame, channel, e)
   never-passes never (Verdict.Refused number) e = absurd (shown-not _ (sym (never 0) ∙ start-refused e 0))
-  never-passes never (Verdict.Fault number channel at frame) e =
+  never-passes never (Verdict.Fault number channel at frame address) e =
       absurd (shown-not _ (sym (never (frame + 1)) ∙ fault-reached e (frame + 1) (omega arith)))
 
   -- the check passes a track exactly when no run of any length is refused
@@ -83,6 +83,6 @@ module _ (bank : List ℕ) (places : Places) (track : ℕ) where
       by : (verdict : Verdict) → shown (ofFrame number frame) ≡ refusalForeseen n verdict → ⊥
       by (Verdict.Pass at channel) e = shown-not _ (sym e)
       by (Verdict.Refused m) e = let z : _≡_ {A = ℕ} 0 1 = cc in omega arith
-      by (Verdict.Fault m channel at reached) e =
+      by (Verdict.Fault m channel at reached address) e =
           by-test (λ s. shown (ofFrame number frame) ≡ s → ⊥) (ltb reached n)
           (λ _ e. let z : _≡_ {A = ℕ} 0 1 = cc in omega arith) (λ _ e. shown-not _ (sym e)) e

@@ -7,7 +7,7 @@ use native.Mathlib.Omega.{arith}
 use native.Mathlib.Nat.{add-zero}
 use lib.Dec.{leb·zero, leb·suc-zero, leb·suc-suc}
 use Rattle.metroid_format.specs.declared.header.Track.{Track}
-use Rattle.metroid_format.specs.declared.command.Finish.{Finish}
+use Rattle.metroid_format.specs.declared.timeline.Finish.{Finish}
 use Rattle.metroid_player.specs.Record.{endedPlayer}
 use Rattle.metroid_player.specs.Counts.{most-commands, AtMost}
 use Rattle.metroid_player.specs.Frame.{frameOfTrack}
@@ -30,12 +30,12 @@ pub data Outlook : Type 0 where
 abbrev pub endAhead : ℕ → ℕ → ℕ → Finish → Outlook → Shown End
 endAhead k n i Finish.End (stopping m) = ifReached n m (record { frame = k + m; channel = i })
 endAhead k n i Finish.End stopped = nothing
-endAhead k n i (Finish.Refused number at) o = nothing
+endAhead k n i (Finish.Refused number at address) o = nothing
 
 abbrev pub refusalAhead : ℕ → ℕ → ℕ → Finish → Outlook → Shown Refusal
 refusalAhead k n i Finish.End o = nothing
-refusalAhead k n i (Finish.Refused number at) (stopping m) = ifReached n m (ofData number i at (k + m))
-refusalAhead k n i (Finish.Refused number at) stopped = nothing
+refusalAhead k n i (Finish.Refused number at address) (stopping m) = ifReached n m (ofData number i at (k + m) address)
+refusalAhead k n i (Finish.Refused number at address) stopped = nothing
 
 module _ (bank : List ℕ) (track : Track) where
   -- where a run stands that stops in the i-th channel
@@ -50,8 +50,8 @@ module _ (bank : List ℕ) (track : Track) where
         Steps i f finish (stopping (suc n))
     ends : {after : Outlook} → f .answer ≡ Answer.End → lastCounted (f .counts) ≡ i → Stands i (f .player) Finish.End after →
         Steps i f Finish.End (stopping 0)
-    faults : {number at : ℕ} → f .answer ≡ Answer.Fault number i at →
-        Stands i (f .player) (Finish.Refused number at) (stopping 0) → Steps i f (Finish.Refused number at) (stopping 0)
+    faults : {number at address : ℕ} → f .answer ≡ Answer.Fault number i at address →
+        Stands i (f .player) (Finish.Refused number at address) (stopping 0) → Steps i f (Finish.Refused number at address) (stopping 0)
     stays : f .answer ≡ Answer.Stopped → Stands i (f .player) Finish.End stopped → Steps i f Finish.End stopped
 
   step-counts : Starts bank track → {i : ℕ} {player : Player} {finish : Finish} {o : Outlook} → Stands i player finish o →
@@ -76,7 +76,7 @@ module _ (bank : List ℕ) (track : Track) where
     step-going player zero Finish.End l₀ r l =
         let (a, c, p) = stops-at bank track (s .whole) r l in
         step-end _ (track .restart) l₀ a c p
-    step-going player zero (Finish.Refused number at) l₀ r l =
+    step-going player zero (Finish.Refused number at address) l₀ r l =
         let (a, p) = stops-at bank track (s .whole) r l in
         faults a (rw p (going r l))
 
@@ -106,8 +106,8 @@ module _ (k i : ℕ) where
   unfolding endFrom refusalFrom
   shows-none Finish.End (stopping m) = record { end = none-reached 0 m _; refusal = refl; commands = tt }
   shows-none Finish.End stopped = record { end = refl; refusal = refl; commands = tt }
-  shows-none (Finish.Refused number at) (stopping m) = record { end = refl; refusal = none-reached 0 m _; commands = tt }
-  shows-none (Finish.Refused number at) stopped = record { end = refl; refusal = refl; commands = tt }
+  shows-none (Finish.Refused number at address) (stopping m) = record { end = refl; refusal = none-reached 0 m _; commands = tt }
+  shows-none (Finish.Refused number at address) stopped = record { end = refl; refusal = refl; commands = tt }
 
   module _ (n : ℕ) (f : Framed) (fs : List Framed) (counts : AtMost most-commands (f .counts)) where
     shows-plays : (m : ℕ) (finish : Finish) → f .answer ≡ Answer.Events → Shows (k + 1) n i finish (stopping m) fs →
@@ -120,7 +120,7 @@ module _ (k i : ℕ) where
           refusal = rw a (later .refusal);
           commands = (counts, later .commands);
         }
-    shows-plays m (Finish.Refused number at) a later =
+    shows-plays m (Finish.Refused number at address) a later =
         let same : k + 1 + m ≡ k + suc m = omega arith in
         record {
           end = rw a (later .end);
@@ -137,8 +137,8 @@ module _ (k i : ℕ) where
       commands = (counts, later .commands);
     }
 
-    shows-faults : {number at : ℕ} {o : Outlook} → f .answer ≡ Answer.Fault number i at →
-        Shows (k + 1) n i (Finish.Refused number at) o fs → Shows k (suc n) i (Finish.Refused number at) (stopping 0) (f ∷ fs)
+    shows-faults : {number at address : ℕ} {o : Outlook} → f .answer ≡ Answer.Fault number i at address →
+        Shows (k + 1) n i (Finish.Refused number at address) o fs → Shows k (suc n) i (Finish.Refused number at address) (stopping 0) (f ∷ fs)
     unfolding endFrom refusalFrom
     shows-faults a later = record {
       end = rw a (later .end);

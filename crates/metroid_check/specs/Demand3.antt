@@ -31,13 +31,13 @@ ifReached n frame x = pick (ltb frame n) (shown x) nothing
 abbrev pub endForeseen : ℕ → Verdict → Shown End
 endForeseen n (Verdict.Pass frame channel) = ifReached n frame (record { frame = frame; channel = channel })
 endForeseen n (Verdict.Refused number) = nothing
-endForeseen n (Verdict.Fault number channel at frame) = nothing
+endForeseen n (Verdict.Fault number channel at frame address) = nothing
 
 -- the refusal that a verdict names; start's is shown by a list of any length
 abbrev pub refusalForeseen : ℕ → Verdict → Shown Refusal
 refusalForeseen n (Verdict.Pass frame channel) = nothing
 refusalForeseen n (Verdict.Refused number) = shown (ofStart number)
-refusalForeseen n (Verdict.Fault number channel at frame) = ifReached n frame (ofData number channel at frame)
+refusalForeseen n (Verdict.Fault number channel at frame address) = ifReached n frame (ofData number channel at frame address)
 
 -- a run of n frames shows what the verdict foresees, and no channel reads more than 32,896 commands in a frame
 pub record Demand3 (bank : List ℕ) (places : Places) (track n : ℕ) (verdict : Verdict) : Type 0 where

@@ -40,11 +40,11 @@ pub record End : Type 0 where
   pub frame : ℕ
   pub channel : ℕ
 
--- its number; where a frame is refused that frame, and for 10 to 15 the channel and the offset
+-- its number; where a frame is refused that frame, and for 10 to 15 the channel, the offset and, last, the address
 pub data Refusal : Type 0 where
   ofStart : ℕ → Refusal
   ofFrame : ℕ → ℕ → Refusal
-  ofData : ℕ → ℕ → ℕ → ℕ → Refusal
+  ofData : ℕ → ℕ → ℕ → ℕ → ℕ → Refusal
 
 abbrev pub lastFrom : ℕ → ℕ → List ℕ → ℕ
 lastFrom i found [] = found
@@ -59,7 +59,7 @@ endBy k counts later Answer.Events = later
 endBy k counts later Answer.End = shown (record { frame = k; channel = lastCounted counts })
 endBy k counts later Answer.Stopped = later
 endBy k counts later (Answer.Refused number) = later
-endBy k counts later (Answer.Fault number channel at) = later
+endBy k counts later (Answer.Fault number channel at address) = later
 
 -- the first frame that answers End, numbered from k; its channel is the last in order with a count above 0 in that answer
 unfoldable pub endFrom : ℕ → List Framed → Shown End
@@ -71,7 +71,7 @@ refusalBy k later Answer.Events = later
 refusalBy k later Answer.End = later
 refusalBy k later Answer.Stopped = later
 refusalBy k later (Answer.Refused number) = shown (ofFrame number k)
-refusalBy k later (Answer.Fault number channel at) = shown (ofData number channel at k)
+refusalBy k later (Answer.Fault number channel at address) = shown (ofData number channel at k address)
 
 -- that of the lowest-numbered refused frame
 unfoldable pub refusalFrom : ℕ → List Framed → Shown Refusal

@@ -1,17 +1,18 @@
 -- The check: the least stop of the used channels, by frame and then by channel.
-use Prim.Native.Nat.{ℕ, _+_, _<_}
+use Prim.Native.Nat.{ℕ, _+_, _<_, _≤_}
 use mathlib.Core.List.{List, [], _∷_}
 use lib.Dec.{leb, eqb}
+use Rattle.engine_base.specs.Address.{bank-end}
 use Rattle.engine_base.specs.Pick.{pick}
 use Rattle.engine_base.specs.Told.{Told}
-use Rattle.engine_base.specs.Refusal.{no-channel, Unopened, FaultWithin}
+use Rattle.engine_base.specs.Refusal.{no-channel, Unopened, FaultAt}
 use Rattle.metroid_format.specs.Command.{data-limit}
 use Rattle.metroid_format.specs.Header.{openTrack}
 use Rattle.metroid_format.specs.Timeline.{timelineOf}
 use Rattle.metroid_format.specs.declared.bank.Places.{Places}
 use Rattle.metroid_format.specs.declared.header.Voice.{Voice}
 use Rattle.metroid_format.specs.declared.header.Track.{Track}
-use Rattle.metroid_format.specs.declared.command.Finish.{Finish}
+use Rattle.metroid_format.specs.declared.timeline.Finish.{Finish}
 use Rattle.metroid_format.specs.Channel.{channelSource}
 use Rattle.metroid_check.specs.declared.verdict.Soonest.{Soonest}
 use Rattle.metroid_check.specs.declared.verdict.Verdict.{Verdict}
@@ -37,7 +38,7 @@ soonestFrom bank track i (v ∷ vs) = sooner (stopOf bank track i v) (soonestFro
 abbrev pub verdictBy : Soonest → Verdict
 verdictBy Soonest.Nothing = Verdict.Refused no-channel
 verdictBy (Soonest.Stop frame channel Finish.End) = Verdict.Pass frame channel
-verdictBy (Soonest.Stop frame channel (Finish.Refused number at)) = Verdict.Fault number channel at frame
+verdictBy (Soonest.Stop frame channel (Finish.Refused number at address)) = Verdict.Fault number channel at frame address
 
 -- 1 to 9 come first
 unfoldable pub verdictOf : List ℕ → Places → ℕ → Verdict
@@ -46,16 +47,18 @@ verdictOf bank places track =
     (verdictBy (soonestFrom bank (openTrack bank places track .track) 0 (openTrack bank places track .track .voices)))
     (Verdict.Refused (openTrack bank places track .number))
 
--- 0, the frame and the channel; or the number, and for 10 to 15 the channel, the offset and the frame
+-- 0, the frame and the channel; or the number, and for 10 to 15 the channel, the offset, the frame and the address
 abbrev pub toldVerdict : Verdict → Told
 toldVerdict (Verdict.Pass frame channel) = record { number = 0; values = frame ∷ channel ∷ [] }
 toldVerdict (Verdict.Refused number) = record { number = number; values = [] }
-toldVerdict (Verdict.Fault number channel at frame) = record { number = number; values = channel ∷ at ∷ frame ∷ [] }
+toldVerdict (Verdict.Fault number channel at frame address) = record { number = number; values = channel ∷ at ∷ frame ∷ address ∷ [] }
 
 -- Below: only private contracts and laws use these.
 
--- a refusal is one of 1 to 15; a verdict's place is one of four channels, and an offset in its data or at its end (proofs/verdict/Place.antt)
-abbrev pub VerdictWithin : Verdict → Type 0
-VerdictWithin (Verdict.Pass frame channel) = channel < 4
-VerdictWithin (Verdict.Refused number) = Unopened number
-VerdictWithin (Verdict.Fault number channel at frame) = (channel < 4) × FaultWithin data-limit number at
+-- a refusal is one of 1 to 15; a verdict's place is one of four channels, an offset in its data or at its end, and the address that is
+-- the channel's start address plus the offset, at most that behind the bank (proofs/verdict/Place.antt)
+abbrev pub VerdictWithin : (ℕ → ℕ) → Verdict → Type 0
+VerdictWithin start (Verdict.Pass frame channel) = channel < 4
+VerdictWithin start (Verdict.Refused number) = Unopened number
+VerdictWithin start (Verdict.Fault number channel at frame address) =
+    (channel < 4) × FaultAt (start channel) data-limit number at address × (address ≤ bank-end)

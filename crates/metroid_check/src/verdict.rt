@@ -4,11 +4,11 @@ use engine_base::refusal;
 use metroid_format::bank;
 use metroid_format::bank::Places;
 use metroid_format::command::DATA_LIMIT;
-use metroid_format::command::Finish;
 use metroid_format::header;
 use metroid_format::header::Track;
 use metroid_format::header::Voice;
 use metroid_format::timeline;
+use metroid_format::timeline::Finish;
 use metroid_format::timeline::Timeline;
 ghost use mathlib.Core.Path.{_≡_};
 ghost use Rattle.metroid_format.specs.Timeline.{timelineOf};
@@ -21,8 +21,8 @@ pub enum Verdict {
     Pass(u32, usize),
     // 1 to 9
     Refused(u32),
-    // 10 to 15, the channel, the offset of the byte and the frame
-    Fault(u32, usize, usize, u32),
+    // 10 to 15, the channel, the offset of the byte, the frame and the byte's address
+    Fault(u32, usize, u16, u32, u32),
 }
 
 // The stop that comes first of those looked at.
@@ -36,13 +36,14 @@ fn timeline_of(bank: &[u8], track: Track, voice: Voice) -> Timeline
     ensures { λ r. ⌜ r ≡ timelineOf (channelSource (now (bank .entry)) track voice) ⌝ }
 {
     let kind = voice.kind;
-    let at = voice.data as usize;
+    let base = voice.data;
     let table = track.lengths;
     timeline::timeline_of(
         kind,
-        bytes::part(bank, at, DATA_LIMIT),
+        bytes::part(bank, base as usize, DATA_LIMIT),
         bytes::part(bank, table, bank::LENGTHS_SIZE),
         track.window,
+        base,
     )
 }
 
@@ -97,7 +98,9 @@ fn verdict_of(soonest: Soonest) -> Verdict
         Soonest::Nothing => Verdict::Refused(refusal::NO_CHANNEL),
         Soonest::Stop(frame, channel, finish) => match finish {
             Finish::End => Verdict::Pass(frame, channel),
-            Finish::Refused(number, at) => Verdict::Fault(number, channel, at, frame),
+            Finish::Refused(number, at, address) => {
+                Verdict::Fault(number, channel, at, frame, address)
+            }
         },
     }
 }

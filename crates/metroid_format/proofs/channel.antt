@@ -1,3 +1,4 @@
+pub mod Sizes
 pub mod ReadSteps
 pub mod Stepped
 pub mod ReadBound

@@ -165,5 +165,9 @@ toldOpened o = record { number = o .number; values = [] }
 
 -- Below: only private contracts and laws use these.
 
+-- the start address of the i-th channel
+abbrev pub channelStart : List ℕ → ℕ → ℕ
+channelStart header i = getD (addresses header) i 0
+
 abbrev pub refusedTrack : ℕ → Opened
 refusedTrack n = record { number = n; track = blankTrack }

@@ -9,11 +9,11 @@ use Rattle.engine_base.specs.Pick.{pick}
 use Rattle.engine_base.specs.Told.{Told, Answers}
 use Rattle.engine_base.specs.Refusal.{past-data}
 use Rattle.metroid_format.specs.Command.{data-limit}
-use Rattle.metroid_format.specs.Channel.{Source, freshCursor, playedAt, stepOf}
+use Rattle.metroid_format.specs.Channel.{Source, addressAt, freshCursor, playedAt, stepOf}
 use Rattle.metroid_format.specs.declared.channel.Cursor.{Cursor}
 use Rattle.metroid_format.specs.declared.channel.Played.{Played}
 use Rattle.metroid_format.specs.declared.channel.Step.{Step}
-use Rattle.metroid_format.specs.declared.command.Finish.{Finish}
+use Rattle.metroid_format.specs.declared.timeline.Finish.{Finish}
 use Rattle.metroid_format.specs.declared.timeline.Timeline.{Timeline}
 use Rattle.metroid_format.specs.declared.timeline.Pass.{Pass}
 use Rattle.metroid_format.specs.declared.timeline.Passed.{Passed}
@@ -29,8 +29,8 @@ pub data Walk (source : Source) : Cursor → ℕ → Finish → Type 0 where
   note : {cursor after : Cursor} {b frames : ℕ} {finish : Finish} → stepOf source cursor ≡ Step.Note b after →
       Walk source after frames finish → Walk source cursor (after .length .count + frames) finish
   ended : {cursor : Cursor} → stepOf source cursor ≡ Step.End → Walk source cursor 0 Finish.End
-  refused : {cursor : Cursor} {number at : ℕ} → stepOf source cursor ≡ Step.Refused number at →
-      Walk source cursor 0 (Finish.Refused number at)
+  refused : {cursor : Cursor} {number at address : ℕ} → stepOf source cursor ≡ Step.Refused number at address →
+      Walk source cursor 0 (Finish.Refused number at address)
 
 -- a lone note of a body, before its first BL or after
 abbrev pub afterLone : Bool → Pass → ℕ → Pass
@@ -80,7 +80,7 @@ passedBy pass (Played.Length b length next) =
       frames = pass .frames + length .count;
     })
 passedBy pass (Played.Note b next) = Passed.On (afterLone (eqb (pass .rest) 0) pass next)
-passedBy pass (Played.Refused number at) = Passed.Finished (Finish.Refused number at)
+passedBy pass (Played.Refused number at address) = Passed.Finished (Finish.Refused number at address)
 
 unfoldable pub passedOf : Source → Pass → Passed
 passedOf source pass = passedBy pass (playedAt source (pass .next) (pass .length))
@@ -91,7 +91,8 @@ passBy on pass (Passed.Finished finish) = record { frames = pass .frames; finish
 
 -- every command passes a byte, so that the fuel is never used up (proofs/timeline/Walked.antt)
 unfoldable pub passFrom : Source → ℕ → Pass → Timeline
-passFrom source zero pass = record { frames = pass .frames; finish = Finish.Refused past-data (pass .next) }
+passFrom source zero pass =
+    record { frames = pass .frames; finish = Finish.Refused past-data (pass .next) (addressAt (source .start) (pass .next)) }
 passFrom source (suc fuel) pass = passBy (passFrom source fuel) pass (passedOf source pass)
 
 abbrev pub freshPass : Pass
@@ -102,7 +103,7 @@ timelineOf source = passFrom source (length (source .bytes) + 1) freshPass
 
 abbrev pub toldFinish : Finish → Told
 toldFinish Finish.End = record { number = 0; values = [] }
-toldFinish (Finish.Refused number at) = record { number = number; values = at ∷ [] }
+toldFinish (Finish.Refused number at address) = record { number = number; values = at ∷ address ∷ [] }
 
 abbrev pub toldTimeline : Timeline → Told
 toldTimeline timeline = record { number = toldFinish (timeline .finish) .number; values = timeline .frames ∷ toldFinish (timeline .finish) .values }

@@ -5,23 +5,25 @@ use crate::command::Command;
 use crate::command::DATA_LIMIT;
 use crate::command::Decoded;
 use crate::command::Kind;
+use engine_base::address;
 use engine_base::bytes;
 use engine_base::field;
 use engine_base::refusal;
 use engine_base::time::Frames;
 ghost use mathlib.Core.Path.{_≡_};
 ghost use lib.ListN.{take};
+ghost use Rattle.engine_base.specs.Address.{addressOf};
 ghost use Rattle.engine_base.specs.Told.{Answers};
 ghost use Rattle.metroid_format.specs.Command.{data-limit};
-ghost use Rattle.metroid_format.specs.Channel.{sourceOf, lengthFault, counterOf, loopEnd, playedOf, playedAt, stepOf, readUntil, toldUntil};
+ghost use Rattle.metroid_format.specs.Channel.{sourceOf, lengthFault, counterOf, addressAt, loopEnd, playedOf, playedAt, stepOf, readUntil, toldUntil, Limited};
 
 // More commands than reading until a note can take.
 const FUEL: u32 = (DATA_LIMIT / 2 * 257 + 2) as u32;
 
 pub struct Cursor {
-    pub next: usize,
+    pub next: u16,
     // the byte after the last begin
-    pub loop_start: usize,
+    pub loop_start: u16,
     pub counter: u8,
     // 0: none yet
     pub length: Frames,
@@ -30,28 +32,28 @@ pub struct Cursor {
 // What a command does before loops are considered, with the offset after it.
 pub enum Played {
     End,
-    EndLoop(usize),
+    EndLoop(u16),
     // the counter
-    BeginLoop(u8, usize),
+    BeginLoop(u8, u16),
     // the sounding byte and the new length
-    Length(u8, Frames, usize),
+    Length(u8, Frames, u16),
     // the sounding byte, at the current length
-    Note(u8, usize),
-    // the number of the refusal and the offset of the byte
-    Refused(u32, usize),
+    Note(u8, u16),
+    // the number of the refusal, the offset of the byte and its address
+    Refused(u32, u16, u32),
 }
 
 pub enum Step {
     Again(Cursor),
     Note(u8, Cursor),
     End,
-    Refused(u32, usize),
+    Refused(u32, u16, u32),
 }
 
 pub enum Stop {
     Note(u8),
     End,
-    Refused(u32, usize),
+    Refused(u32, u16, u32),
 }
 
 // Where reading stopped, the commands read, and the cursor: after a note, else at the stopping command.
@@ -85,16 +87,24 @@ fn counter_of(n: u8) -> u8
     if n == 0 { 255 } else { n - 1 }
 }
 
+// The address of the byte at an offset of data that stand at offset base of the bank.
+pub(crate) fn address_at(base: u16, at: u16) -> u32
+    ensures { λ r. ⌜ r ≡ addressAt (addressOf base) at ⌝ }
+{
+    address::BANK_START as u32 + base as u32 + at as u32
+}
+
 // What a command at an offset does, given the offset after it and the current length.
 fn played_by(
     lengths: &[u8],
     window: u8,
-    at: usize,
+    base: u16,
+    at: u16,
     length: Frames,
     command: Command,
-    next: usize,
+    next: u16,
 ) -> Played
-    ensures { λ r. ⌜ r ≡ playedOf (now (lengths .entry)) window at length command next ⌝ }
+    ensures { λ r. ⌜ r ≡ playedOf (now (lengths .entry)) window (addressOf base) at length command next ⌝ }
 {
     match command {
         Command::End => Played::End,
@@ -106,7 +116,7 @@ fn played_by(
         }
         Command::Note(b) => {
             if length.count == 0 {
-                Played::Refused(refusal::NO_LENGTH, at)
+                Played::Refused(refusal::NO_LENGTH, at, address_at(base, at))
             } else {
                 Played::Note(b, next)
             }
@@ -120,24 +130,31 @@ pub(crate) fn played_at(
     bytes: &[u8],
     lengths: &[u8],
     window: u8,
-    at: usize,
+    base: u16,
+    at: u16,
     length: Frames,
 ) -> Played
+    requires { ⌜ Limited (now bytes) ⌝ }
     ensures { λ r. ⌜ r ≡
-        playedAt (sourceOf kind (now (bytes .entry)) (now (lengths .entry)) window) at length ⌝ }
+        playedAt (sourceOf kind (now (bytes .entry)) (now (lengths .entry)) window (addressOf base)) at length ⌝ }
 {
-    let fault = length_fault(lengths, window, bytes::byte(bytes, at));
+    let fault = length_fault(lengths, window, bytes::byte(bytes, at as usize));
     if fault != 0 {
-        return Played::Refused(fault, at);
+        return Played::Refused(fault, at, address_at(base, at));
     }
-    let decoded = command::command_at(kind, bytes, at);
+    let decoded = command::command_at(kind, bytes, at as usize);
     match decoded {
-        Decoded::Found(command, next) => played_by(lengths, window, at, length, command, next),
-        Decoded::Refused(number, place) => Played::Refused(number, place),
+        Decoded::Found(command, next) => {
+            played_by(lengths, window, base, at, length, command, next as u16)
+        }
+        Decoded::Refused(number, place) => {
+            let place = place as u16;
+            Played::Refused(number, place, address_at(base, place))
+        }
     }
 }
 
-fn loop_end(mut cursor: Cursor, next: usize) -> Cursor
+fn loop_end(mut cursor: Cursor, next: u16) -> Cursor
     ensures { λ r. ⌜ r ≡ loopEnd cursor next ⌝ }
 {
     if cursor.counter == 0 {
@@ -150,13 +167,21 @@ fn loop_end(mut cursor: Cursor, next: usize) -> Cursor
 }
 
 // One command from a cursor.
-fn step_from(kind: Kind, bytes: &[u8], lengths: &[u8], window: u8, mut cursor: Cursor) -> Step
+fn step_from(
+    kind: Kind,
+    bytes: &[u8],
+    lengths: &[u8],
+    window: u8,
+    base: u16,
+    mut cursor: Cursor,
+) -> Step
+    requires { ⌜ Limited (now bytes) ⌝ }
     ensures { λ r. ⌜ r ≡
-        stepOf (sourceOf kind (now (bytes .entry)) (now (lengths .entry)) window) cursor ⌝ }
+        stepOf (sourceOf kind (now (bytes .entry)) (now (lengths .entry)) window (addressOf base)) cursor ⌝ }
 {
     let at = cursor.next;
     let length = cursor.length;
-    let played = played_at(kind, bytes, lengths, window, at, length);
+    let played = played_at(kind, bytes, lengths, window, base, at, length);
     match played {
         Played::End => Step::End,
         Played::EndLoop(next) => Step::Again(loop_end(cursor, next)),
@@ -175,7 +200,7 @@ fn step_from(kind: Kind, bytes: &[u8], lengths: &[u8], window: u8, mut cursor: C
             cursor.next = next;
             Step::Note(b, cursor)
         }
-        Played::Refused(number, place) => Step::Refused(number, place),
+        Played::Refused(number, place, address) => Step::Refused(number, place, address),
     }
 }
 
@@ -189,16 +214,23 @@ fn stopped(stop: Stop, count: u32, cursor: Cursor) -> Until
     }
 }
 
-// Commands until a note, the end or a fault.
-pub fn read_until(kind: Kind, bytes: &[u8], lengths: &[u8], window: u8, start: Cursor) -> Until
+// Commands until a note, the end or a fault, of data that stand at offset base of the bank.
+pub fn read_until(
+    kind: Kind,
+    bytes: &[u8],
+    lengths: &[u8],
+    window: u8,
+    base: u16,
+    start: Cursor,
+) -> Until
     ensures { λ r. ⌜ Answers toldUntil r
-        (readUntil data-limit (sourceOf kind (take data-limit (now (bytes .entry))) (now (lengths .entry)) window) start) ⌝ }
+        (readUntil data-limit (sourceOf kind (take data-limit (now (bytes .entry))) (now (lengths .entry)) window (addressOf base)) start) ⌝ }
 {
     let data = bytes::part(bytes, 0, DATA_LIMIT);
     let mut cursor = start;
     let mut count: u32 = 0;
     while count < FUEL {
-        let step = step_from(kind, data, lengths, window, cursor);
+        let step = step_from(kind, data, lengths, window, base, cursor);
         match step {
             Step::Again(after) => {
                 cursor = after;
@@ -206,11 +238,14 @@ pub fn read_until(kind: Kind, bytes: &[u8], lengths: &[u8], window: u8, start: C
             }
             Step::Note(b, after) => return stopped(Stop::Note(b), count + 1, after),
             Step::End => return stopped(Stop::End, count + 1, cursor),
-            Step::Refused(number, at) => return stopped(Stop::Refused(number, at), count, cursor),
+            Step::Refused(number, at, address) => {
+                return stopped(Stop::Refused(number, at, address), count, cursor)
+            }
         }
     }
+    let at = cursor.next;
     stopped(
-        Stop::Refused(refusal::PAST_DATA, cursor.next),
+        Stop::Refused(refusal::PAST_DATA, at, address_at(base, at)),
         count,
         cursor,
     )

@@ -25,7 +25,7 @@ pub enum Command {
     Note(u8),
 }
 
-// How channel data comes to a stop.
+// How straight reading of channel data comes to a stop.
 pub enum Finish {
     End,
     // the number of the refusal and the offset of the byte

@@ -2,7 +2,6 @@
 use crate::channel;
 use crate::channel::Played;
 use crate::command::DATA_LIMIT;
-use crate::command::Finish;
 use crate::command::Kind;
 use engine_base::bytes;
 use engine_base::refusal;
@@ -11,9 +10,17 @@ ghost use mathlib.Core.Path.{_≡_};
 ghost use Prim.Native.Nat.{_+_, _*_, _≤_};
 ghost use lib.Dec.{eqb};
 ghost use lib.ListN.{take};
+ghost use Rattle.engine_base.specs.Address.{addressOf};
 ghost use Rattle.metroid_format.specs.Command.{data-limit};
-ghost use Rattle.metroid_format.specs.Channel.{sourceOf};
+ghost use Rattle.metroid_format.specs.Channel.{sourceOf, Limited};
 ghost use Rattle.metroid_format.specs.Timeline.{afterLone, passedBy, passedOf, Small, Timed};
+
+// How a channel by itself comes to a stop.
+pub enum Finish {
+    End,
+    // the number of the refusal, the offset of the byte and its address
+    Refused(u32, u16, u32),
+}
 
 pub struct Timeline {
     pub frames: u32,
@@ -22,7 +29,7 @@ pub struct Timeline {
 
 // Where the pass stands, and the body of the last begun loop so far.
 struct Pass {
-    pub next: usize,
+    pub next: u16,
     pub length: Frames,
     // plays of the body after the first
     pub counter: u8,
@@ -47,7 +54,7 @@ fn later_plays(counter: u8, lead: u32, length: u8, rest: u32) -> u32
 }
 
 // A lone note counts to the lead as long as no BL stood in the body.
-fn after_lone(mut pass: Pass, next: usize) -> Pass
+fn after_lone(mut pass: Pass, next: u16) -> Pass
     requires { ⌜ Small pass ⌝ }
     ensures { λ r. ⌜ r ≡ afterLone (eqb (pass .rest) 0) pass next ⌝ }
 {
@@ -91,24 +98,27 @@ fn passed_by(mut pass: Pass, played: Played) -> Passed
             Passed::On(pass)
         }
         Played::Note(_, next) => Passed::On(after_lone(pass, next)),
-        Played::Refused(number, at) => Passed::Finished(Finish::Refused(number, at)),
+        Played::Refused(number, at, address) => {
+            Passed::Finished(Finish::Refused(number, at, address))
+        }
     }
 }
 
-fn pass_on(kind: Kind, bytes: &[u8], lengths: &[u8], window: u8, pass: Pass) -> Passed
-    requires { ⌜ Small pass ⌝ }
-    ensures { λ r. ⌜ r ≡ passedOf (sourceOf kind (now (bytes .entry)) (now (lengths .entry)) window) pass ⌝ }
+fn pass_on(kind: Kind, bytes: &[u8], lengths: &[u8], window: u8, base: u16, pass: Pass) -> Passed
+    requires { ⌜ Small pass × Limited (now bytes) ⌝ }
+    ensures { λ r. ⌜ r ≡ passedOf (sourceOf kind (now (bytes .entry)) (now (lengths .entry)) window (addressOf base)) pass ⌝ }
 {
     let at = pass.next;
     let length = pass.length;
     passed_by(
         pass,
-        channel::played_at(kind, bytes, lengths, window, at, length),
+        channel::played_at(kind, bytes, lengths, window, base, at, length),
     )
 }
 
-pub fn timeline_of(kind: Kind, bytes: &[u8], lengths: &[u8], window: u8) -> Timeline
-    ensures { λ r. ⌜ Timed (sourceOf kind (take data-limit (now (bytes .entry))) (now (lengths .entry)) window) r ⌝ }
+// Of data that stand at offset base of the bank.
+pub fn timeline_of(kind: Kind, bytes: &[u8], lengths: &[u8], window: u8, base: u16) -> Timeline
+    ensures { λ r. ⌜ Timed (sourceOf kind (take data-limit (now (bytes .entry))) (now (lengths .entry)) window (addressOf base)) r ⌝ }
 {
     let data = bytes::part(bytes, 0, DATA_LIMIT);
     let mut pass = Pass {
@@ -121,7 +131,7 @@ pub fn timeline_of(kind: Kind, bytes: &[u8], lengths: &[u8], window: u8) -> Time
     };
     let mut n: usize = 0;
     while n <= data.len() {
-        let passed = pass_on(kind, data, lengths, window, pass);
+        let passed = pass_on(kind, data, lengths, window, base, pass);
         match passed {
             Passed::On(after) => {
                 pass = after;
@@ -137,6 +147,6 @@ pub fn timeline_of(kind: Kind, bytes: &[u8], lengths: &[u8], window: u8) -> Time
     let frames = pass.frames;
     Timeline {
         frames,
-        finish: Finish::Refused(refusal::PAST_DATA, at),
+        finish: Finish::Refused(refusal::PAST_DATA, at, channel::address_at(base, at)),
     }
 }

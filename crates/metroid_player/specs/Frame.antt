@@ -7,7 +7,7 @@ use lib.Seq.{sets}
 use Rattle.engine_base.specs.Pick.{pick}
 use Rattle.engine_base.specs.Told.{Told}
 use Rattle.engine_base.specs.Answer.{answerNumber, answerKind, answerPlace}
-use Rattle.engine_base.specs.Refusal.{invalid-record, Unopened, FaultWithin}
+use Rattle.engine_base.specs.Refusal.{invalid-record, Unopened, FaultAt}
 use Rattle.metroid_format.specs.Command.{data-limit}
 use Rattle.metroid_format.specs.Header.{openTrack}
 use Rattle.metroid_format.specs.Channel.{channelSource, readUntil}
@@ -53,8 +53,8 @@ oneOff c = record {
 abbrev pub turnBy : Channel → Cursor → ℕ → Stop → Turn
 turnBy c cursor count (Stop.Note b) = record { turned = Turned.Plays; began = true; channel = begun cursor b; count = count }
 turnBy c cursor count Stop.End = record { turned = Turned.End; began = false; channel = c; count = count }
-turnBy c cursor count (Stop.Refused number at) =
-    record { turned = Turned.Refused number at; began = false; channel = c; count = count }
+turnBy c cursor count (Stop.Refused number at address) =
+    record { turned = Turned.Refused number at address; began = false; channel = c; count = count }
 
 abbrev pub turnOfUntil : Channel → Until → Turn
 turnOfUntil c r = turnBy c (r .cursor) (r .count) (r .stop)
@@ -94,7 +94,7 @@ settleBy bank track i voice t Turned.Off rest = settleOn offEvent (t .channel) (
 settleBy bank track i voice t Turned.Plays rest =
     settleOn (eventOf bank track i voice (t .channel) (t .began)) (oneOff (t .channel)) (t .count) rest
 settleBy bank track i voice t Turned.End rest = settled Answer.End (t .count ∷ [])
-settleBy bank track i voice t (Turned.Refused number at) rest = settled (Answer.Fault number i at) (t .count ∷ [])
+settleBy bank track i voice t (Turned.Refused number at address) rest = settled (Answer.Fault number i at address) (t .count ∷ [])
 
 abbrev pub settleTurn : List ℕ → Track → ℕ → Voice → Turn → Settled → Settled
 settleTurn bank track i voice t rest = settleBy bank track i voice t (t .turned) rest
@@ -127,7 +127,7 @@ framedBy track player s Answer.Events = record {
 framedBy track player s Answer.End = brokenOff Answer.End (s .counts) (endedPlayer (track .restart))
 framedBy track player s Answer.Stopped = unplayed Answer.Stopped player
 framedBy track player s (Answer.Refused number) = unplayed (Answer.Refused number) player
-framedBy track player s (Answer.Fault number i at) = brokenOff (Answer.Fault number i at) (s .counts) player
+framedBy track player s (Answer.Fault number i at address) = brokenOff (Answer.Fault number i at address) (s .counts) player
 
 abbrev pub framed : Track → Player → Settled → Framed
 framed track player s = framedBy track player s (s .answer)
@@ -172,11 +172,11 @@ pub data Unplaced : ℕ → Type 0 where
   of-track : {number : ℕ} → Unopened number → Unplaced number
   of-record : Unplaced invalid-record
 
--- a refusal is one of document 01's table; the place of 10 to 15 is one of the first n channels, and an offset in its data or at its
--- end (proofs/frame/Place.antt: n is 4)
-abbrev pub AnswerWithin : ℕ → Answer → Type 0
-AnswerWithin n Answer.Events = Unit {0}
-AnswerWithin n Answer.End = Unit {0}
-AnswerWithin n Answer.Stopped = Unit {0}
-AnswerWithin n (Answer.Refused number) = Unplaced number
-AnswerWithin n (Answer.Fault number i at) = (i < n) × FaultWithin data-limit number at
+-- a refusal is one of document 01's table; the place of 10 to 15 is one of the first n channels, an offset in its data or at its end,
+-- and the address that is the channel's start address plus the offset (proofs/frame/Place.antt: n is 4)
+abbrev pub AnswerWithin : (ℕ → ℕ) → ℕ → Answer → Type 0
+AnswerWithin start n Answer.Events = Unit {0}
+AnswerWithin start n Answer.End = Unit {0}
+AnswerWithin start n Answer.Stopped = Unit {0}
+AnswerWithin start n (Answer.Refused number) = Unplaced number
+AnswerWithin start n (Answer.Fault number i at address) = (i < n) × FaultAt (start i) data-limit number at address

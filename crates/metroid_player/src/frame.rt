@@ -19,11 +19,9 @@ use metroid_format::header;
 use metroid_format::header::Track;
 use metroid_format::header::Voice;
 ghost use mathlib.Core.Path.{_≡_};
-ghost use mathlib.Core.Bool.{true};
-ghost use Prim.Native.Nat.{_≤_};
 ghost use Rattle.metroid_format.specs.Command.{data-limit};
 ghost use Rattle.metroid_format.specs.Channel.{channelSource, readUntil};
-ghost use Rattle.metroid_player.specs.Record.{cursorOf, channelFits, channelsFit};
+ghost use Rattle.metroid_player.specs.Record.{cursorOf, channelsFit};
 ghost use Rattle.metroid_player.specs.Frame.{begun, oneOff, turnOfUntil, turnOf, eventless, settleFrom, framed, frameOfTrack, frameOf, startOf, toldFramed, toldStarted};
 ghost use Rattle.engine_base.specs.Told.{Answers};
 
@@ -33,8 +31,8 @@ pub enum Turned {
     Off,
     Plays,
     End,
-    // the number of the refusal and the offset of the byte
-    Refused(u32, usize),
+    // the number of the refusal, the offset of the byte and its address
+    Refused(u32, u16, u32),
 }
 
 pub struct Turn {
@@ -62,13 +60,12 @@ pub struct Started {
 
 // A note's record: the frames left are its length.
 fn begun_channel(cursor: Cursor, b: u8) -> Channel
-    requires { ⌜ (cursor .next ≤ data-limit) × (cursor .«loop_start» ≤ data-limit) ⌝ }
     ensures { λ r. ⌜ r ≡ begun cursor b ⌝ }
 {
     let length = cursor.length;
     Channel {
-        next: cursor.next as u16,
-        loop_start: cursor.loop_start as u16,
+        next: cursor.next,
+        loop_start: cursor.loop_start,
         counter: cursor.counter,
         length,
         left: length,
@@ -92,24 +89,23 @@ fn one_off(channel: Channel) -> Channel
 
 // Reads a channel's part of the bank until a note, the end or a fault.
 fn read_channel(bank: &[u8], track: Track, voice: Voice, channel: Channel) -> Until
-    requires { ⌜ (channel .next ≤ data-limit) × (channel .«loop_start» ≤ data-limit) ⌝ }
-    ensures { λ r. ⌜ (r ≡ readUntil data-limit (channelSource (now (bank .entry)) track voice) (cursorOf channel)) × (r .cursor .next ≤ data-limit) × (r .cursor .«loop_start» ≤ data-limit) ⌝ }
+    ensures { λ r. ⌜ r ≡ readUntil data-limit (channelSource (now (bank .entry)) track voice) (cursorOf channel) ⌝ }
 {
     let kind = voice.kind;
-    let at = voice.data as usize;
+    let base = voice.data;
     let table = track.lengths;
     channel::read_until(
         kind,
-        bytes::part(bank, at, DATA_LIMIT),
+        bytes::part(bank, base as usize, DATA_LIMIT),
         bytes::part(bank, table, bank::LENGTHS_SIZE),
         track.window,
+        base,
         record::cursor_of(channel),
     )
 }
 
 // A channel with no frames left reads.
 fn read_turn(bank: &[u8], track: Track, voice: Voice, channel: Channel) -> Turn
-    requires { ⌜ (channel .next ≤ data-limit) × (channel .«loop_start» ≤ data-limit) ⌝ }
     ensures { λ r. ⌜ r ≡ turnOfUntil channel (readUntil data-limit (channelSource (now (bank .entry)) track voice) (cursorOf channel)) ⌝ }
 {
     let until = read_channel(bank, track, voice, channel);
@@ -134,9 +130,9 @@ fn read_turn(bank: &[u8], track: Track, voice: Voice, channel: Channel) -> Turn
                 count,
             }
         }
-        Stop::Refused(number, at) => {
+        Stop::Refused(number, at, address) => {
             Turn {
-                turned: Turned::Refused(number, at),
+                turned: Turned::Refused(number, at, address),
                 began: false,
                 channel,
                 count,
@@ -147,7 +143,6 @@ fn read_turn(bank: &[u8], track: Track, voice: Voice, channel: Channel) -> Turn
 
 // What a channel does.
 fn take_turn(bank: &[u8], track: Track, voice: Voice, channel: Channel) -> Turn
-    requires { ⌜ channelFits voice channel ≡ true ⌝ }
     ensures { λ r. ⌜ r ≡ turnOf (now (bank .entry)) track voice channel ⌝ }
 {
     let used = voice.used;
@@ -201,7 +196,6 @@ fn without_events(answer: Answer, counts: [u32; 4], player: Player) -> Framed
 
 // The four channels, gone through in order.
 fn settle(bank: &[u8], track: Track, player: Player) -> Framed
-    requires { ⌜ channelsFit (track .voices) (player .channels) ≡ true ⌝ }
     ensures { λ r. ⌜ r ≡ framed track player (settleFrom (now (bank .entry)) track 0 (track .voices) (player .channels)) ⌝ }
 {
     let mut channels = player.channels;
@@ -234,8 +228,8 @@ fn settle(bank: &[u8], track: Track, player: Player) -> Framed
                 let ended = record::ended(track.restart);
                 return without_events(Answer::End, counts, ended);
             }
-            Turned::Refused(number, at) => {
-                return without_events(Answer::Fault(number, i, at), counts, player);
+            Turned::Refused(number, at, address) => {
+                return without_events(Answer::Fault(number, i, at, address), counts, player);
             }
         }
     }

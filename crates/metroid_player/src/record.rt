@@ -64,12 +64,10 @@ pub(crate) fn ended(restart: bool) -> Player
 pub(crate) fn cursor_of(channel: Channel) -> Cursor
     ensures { λ r. ⌜ r ≡ cursorOf channel ⌝ }
 {
-    let next = channel.next as usize;
-    let loop_start = channel.loop_start as usize;
     let length = channel.length;
     Cursor {
-        next,
-        loop_start,
+        next: channel.next,
+        loop_start: channel.loop_start,
         counter: channel.counter,
         length,
     }

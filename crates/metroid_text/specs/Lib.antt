@@ -1,4 +1,5 @@
 pub mod Decimal
 pub mod Line
+pub mod Hex
 pub mod Verdict
 pub mod Answer

@@ -28,15 +28,19 @@ fn event_numbers(event: Event) -> [u64; 5]
     ]
 }
 
-fn place_of(answer: Answer) -> [u64; 2]
+fn place_of(answer: Answer) -> [u64; 3]
     ensures { λ r. ⌜ r ≡ answerPlace answer ⌝ }
 {
     match answer {
-        Answer::Events => [0, 0],
-        Answer::End => [0, 0],
-        Answer::Stopped => [0, 0],
-        Answer::Refused(_) => [0, 0],
-        Answer::Fault(_, channel, offset) => [channel as u64, offset as u64],
+        Answer::Events => [0, 0, 0],
+        Answer::End => [0, 0, 0],
+        Answer::Stopped => [0, 0, 0],
+        Answer::Refused(_) => [0, 0, 0],
+        Answer::Fault(_, channel, offset, address) => [
+            channel as u64,
+            offset as u64,
+            address as u64,
+        ],
     }
 }
 
@@ -81,8 +85,8 @@ fn put_events(events: [Event; 4], out: &mut [u8], at: usize) -> usize
     next
 }
 
-// The refusal or 0 and the kind (0 events, 1 end, 2 stopped, 3 refused), the commands read by each channel, channel and
-// offset of a refusal 10 to 15 or 0 0, then five numbers for each channel, with bars between, and a newline.
+// The refusal or 0 and the kind (0 events, 1 end, 2 stopped, 3 refused), the commands read by each channel, channel,
+// offset and address of a refusal 10 to 15 or 0 0 0, then five numbers for each channel, with bars between, and a newline.
 pub fn line(framed: Framed, out: &mut [u8]) -> usize
     ensures { λ r. ⌜ Spells (answerLine framed) (now (out .entry)) r (now (out .exit)) ⌝ }
 {

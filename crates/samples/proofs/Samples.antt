@@ -128,20 +128,24 @@ sees frame place value = record { frame = frame; place = place; value = value }
 abbrev commands : ℕ
 commands = 1 + 2
 
+-- where the channels' parts start
+abbrev parts : ℕ
+parts = 8
+
 abbrev kind : ℕ
-kind = 7 + 5 * 2
+kind = parts + 5 * 2
 
 abbrev note : ℕ
 note = 2
 
 abbrev key : ℕ
-key = 7 + 5 * 2 + 2
+key = parts + 5 * 2 + 2
 
 abbrev release : ℕ
-release = 7 + 5 * 2 + 4
+release = parts + 5 * 2 + 4
 
 abbrev ctrl1 : ℕ
-ctrl1 = 7 + 4
+ctrl1 = parts + 4
 
 -- a track, with square 1's default ctrl 1 byte, how the verdict is told, and what so many frames show
 record Sample : Type 0 where
@@ -162,8 +166,9 @@ sample puts verdict track = showing puts 0 verdict 0 [] track
 abbrev passes : ℕ → ℕ → Told
 passes frame channel = record { number = 0; values = frame ∷ channel ∷ [] }
 
-abbrev refused : ℕ → ℕ → ℕ → ℕ → Told
-refused number channel offset frame = record { number = number; values = channel ∷ offset ∷ frame ∷ [] }
+abbrev refused : ℕ → ℕ → ℕ → ℕ → ℕ → Told
+refused number channel offset frame address =
+    record { number = number; values = channel ∷ offset ∷ frame ∷ address ∷ [] }
 
 -- each as the track of its place in the list
 abbrev numbered : ℕ → List (ℕ → Sample) → List Sample
@@ -179,15 +184,15 @@ samples =
     ∷ sample (triangle (0xc0 ∷ 0xb0 ∷ 0x2a ∷ 0xff ∷ 0x00 ∷ [])) (passes 1536 2)
     ∷ sample (triangle (0xff ∷ 0x00 ∷ [])) (passes 0 2)
     ∷ showing (triangle (0xb0 ∷ 0x00 ∷ 0x00 ∷ [])) 0 (passes 6 2) 1 (sees 0 kind note ∷ sees 0 key 0 ∷ [])
-    ∷ sample (triangle (0x2a ∷ 0x00 ∷ [])) (refused no-length 2 0 0)
-    ∷ sample (triangle (0xb0 ∷ 0x81 ∷ [])) (refused invalid-note 2 1 0)
-    ∷ sample (triangle (0xb0 ∷ 0x2a ∷ 0xa0 ∷ [])) (refused invalid-command 2 2 6)
+    ∷ sample (triangle (0x2a ∷ 0x00 ∷ [])) (refused no-length 2 0 0 0x80a0)
+    ∷ sample (triangle (0xb0 ∷ 0x81 ∷ [])) (refused invalid-note 2 1 0 0x80c1)
+    ∷ sample (triangle (0xb0 ∷ 0x2a ∷ 0xa0 ∷ [])) (refused invalid-command 2 2 6 0x80e2)
     ∷ sample (withSquare (0xb0 ∷ 0x2a ∷ 0x00 ∷ []) (0xb0 ∷ 0x2a ∷ 0xa0 ∷ [])) (passes 6 0)
-    ∷ sample (withNoise (0xb0 ∷ 0x2a ∷ 0xa0 ∷ []) (0xb0 ∷ 0x04 ∷ 0x00 ∷ [])) (refused invalid-command 2 2 6)
+    ∷ sample (withNoise (0xb0 ∷ 0x2a ∷ 0xa0 ∷ []) (0xb0 ∷ 0x04 ∷ 0x00 ∷ [])) (refused invalid-command 2 2 6 0x8122)
     ∷ sample (triangleIn 0x1f (0xb8 ∷ 0x2a ∷ 0x00 ∷ [])) (passes 6 2)
-    ∷ sample (triangleIn 0x1f (0xb9 ∷ 0x2a ∷ 0x00 ∷ [])) (refused past-lengths 2 0 0)
+    ∷ sample (triangleIn 0x1f (0xb9 ∷ 0x2a ∷ 0x00 ∷ [])) (refused past-lengths 2 0 0 0x8160)
     ∷ sample (lastByte 0x00) (passes 0 2)
-    ∷ sample (lastByte 0xb0) (refused past-data 2 1 0)
+    ∷ sample (lastByte 0xb0) (refused past-data 2 1 0 0xc000)
     ∷ showing (square (0xb0 ∷ 0x2a ∷ 0x00 ∷ [])) 0xb3 (passes 6 0) 6
     (sees 0 ctrl1 0xb4 ∷ sees 1 ctrl1 0xb2 ∷ sees 2 ctrl1 0xb3 ∷ sees 5 ctrl1 0xb3 ∷ [])
     ∷ showing (square (0xb0 ∷ 0x2a ∷ 0x00 ∷ [])) 0 (passes 6 0) 6

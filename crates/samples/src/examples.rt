@@ -76,7 +76,7 @@ fn show_frames(verdict: Verdict) {
     match verdict {
         Verdict::Pass(frames, _) => print::number(frames as u64),
         Verdict::Refused(_) => print::verdict(verdict),
-        Verdict::Fault(_, _, _, _) => print::verdict(verdict),
+        Verdict::Fault(_, _, _, _, _) => print::verdict(verdict),
     }
 }
 

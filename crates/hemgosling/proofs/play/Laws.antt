@@ -8,45 +8,47 @@ use mir.Syntax.{w32}
 use mir.Val.{Fits}
 use lib.ListN.{length, getD, drop, drop-of-length-le}
 use lib.Seq.{sets, length-sets, drop-cons}
-use Rattle.engine_base.specs.Refusal.{FaultWithin}
-use Rattle.metroid_format.specs.Command.{data-limit}
 use Rattle.engine_base.proofs.Buffers.{sets-append}
 use Rattle.metroid_player.specs.Event.{toldEvent}
 use Rattle.engine_base.specs.Answer.{answerKind, answerPlace}
-use Rattle.metroid_player.specs.Frame.{toldEvents, AnswerWithin}
+use Rattle.metroid_format.specs.Header.{headerOf, channelStart}
+use Rattle.metroid_format.specs.declared.bank.Places.{Places}
+use Rattle.metroid_player.specs.Frame.{frameOf, toldEvents, AnswerWithin}
+use Rattle.metroid_player.specs.declared.record.Player.{Player}
+use Rattle.metroid_player.specs.declared.frame.Framed.{Framed}
+use Rattle.metroid_player.proofs.frame.Place.{frame-within}
 use Rattle.metroid_player.specs.declared.event.Event.{Event}
 use Rattle.metroid_player.specs.declared.event.Sound.{Sound}
 use Rattle.engine_base.specs.declared.answer.Answer.{Answer}
-use Rattle.hemgosling.proofs.Sizes.{channel-fits, offset-fits}
+use Rattle.hemgosling.proofs.Sizes.{channel-fits}
 
-module _ (a : Answer) (number channel at : ℕ) (e : a ≡ Answer.Fault number channel at) (p : AnswerWithin 4 a) where
-  within : (channel < 4) × FaultWithin data-limit number at
-  within = subst (AnswerWithin 4) e p
+pub answer-placed : (bank : List ℕ) (places : Places) (track : ℕ) (player : Player) (f : Framed) → f ≡ frameOf bank places track player →
+    (start : ℕ → ℕ) × AnswerWithin start 4 (f .answer)
+answer-placed bank places track player f e =
+    (channelStart (headerOf bank places track), rw e (frame-within bank places track player))
 
-  pub fault-channel : Fits w32 channel
-  fault-channel = channel-fits (within .0)
+pub fault-channel : (a : Answer) → (start : ℕ → ℕ) × AnswerWithin start 4 a → (number channel at address : ℕ) →
+    a ≡ Answer.Fault number channel at address → Fits w32 channel
+fault-channel a (start, p) number channel at address e = channel-fits (subst (AnswerWithin start 4) e p .0)
 
-  pub fault-offset : Fits w32 at
-  fault-offset = offset-fits (within .1)
+three : (a : Answer) → length (answerPlace a) ≡ 3
+three Answer.Events = refl
+three Answer.End = refl
+three Answer.Stopped = refl
+three (Answer.Refused number) = refl
+three (Answer.Fault number channel at address) = refl
 
-two : (a : Answer) → length (answerPlace a) ≡ 2
-two Answer.Events = refl
-two Answer.End = refl
-two Answer.Stopped = refl
-two (Answer.Refused number) = refl
-two (Answer.Fault number channel at) = refl
-
--- the kind, four counts, two words of place, then the events
+-- the kind, four counts, three words of place, then the events
 pub answer-put : (a : Answer) (counts : List ℕ) (events : List Event) (before : List ℕ) (kind : ℕ) → kind ≡ answerKind a → (one : List ℕ) → one ≡ sets before 0 (kind ∷ []) →
     (next : List ℕ) → next ≡ sets one 1 counts → (place : List ℕ) → place ≡ answerPlace a →
-    (third : List ℕ) → third ≡ sets next 5 place → (last : List ℕ) → last ≡ sets third 7 (toldEvents events) →
+    (third : List ℕ) → third ≡ sets next 5 place → (last : List ℕ) → last ≡ sets third 8 (toldEvents events) →
     length counts ≡ 4 → last ≡ sets before 0 (answerKind a ∷ counts ++ (answerPlace a ++ toldEvents events))
 answer-put a counts events before kind k one o next n place p third t last l four =
     let first = sets before 0 (answerKind a ∷ []) in
     let five : 1 + length counts ≡ 5 = omega arith in
-    let seven : 5 + length (answerPlace a) ≡ 7 = omega (arith, two a) in
+    let eight : 5 + length (answerPlace a) ≡ 8 = omega (arith, three a) in
     let behind-counts = rw five at (sets-append first 1 counts (answerPlace a ++ toldEvents events)) in
-    let behind-place = rw seven at (sets-append (sets first 1 counts) 5 (answerPlace a) (toldEvents events)) in
+    let behind-place = rw eight at (sets-append (sets first 1 counts) 5 (answerPlace a) (toldEvents events)) in
     rw (l, t, p, n, o, k) (sym (behind-counts ∙ behind-place))
 
 -- five words a channel
@@ -66,29 +68,29 @@ five e = by (e .sound) refl
 pub record Putting (before : List ℕ) (events : List Event) (now : List ℕ) (i : ℕ) : Type 0 where
   pub within : i ≤ 4
   pub four : length events ≡ 4
-  pub same : sets before 7 (toldEvents events) ≡ sets now (7 + 5 * i) (toldEvents (drop i events))
+  pub same : sets before 8 (toldEvents events) ≡ sets now (8 + 5 * i) (toldEvents (drop i events))
   pub size : length now ≡ length before
 
 module _ (before : List ℕ) (events : List Event) (now : List ℕ) (i : ℕ) (p : Putting before events now i) where
   -- words are what `event_words` gives of the channel
-  pub putting-more : i < 4 → (d : Event) (words : List ℕ) → words ≡ toldEvent (getD events i d) → (next : List ℕ) → next ≡ sets now (7 + 5 * i) words →
+  pub putting-more : i < 4 → (d : Event) (words : List ℕ) → words ≡ toldEvent (getD events i d) → (next : List ℕ) → next ≡ sets now (8 + 5 * i) words →
       Putting before events next (i + 1)
   putting-more h d words w next e =
       let v : i < length events = omega (arith, p .four) in
-      let n : 7 + 5 * i + length words ≡ 7 + 5 * (i + 1) = omega (arith, ap length w, five (getD events i d)) in
+      let n : 8 + 5 * i + length words ≡ 8 + 5 * (i + 1) = omega (arith, ap length w, five (getD events i d)) in
       record {
         within = omega arith;
         four = p .four;
         same =
             p .same
-            ∙ ap (λ es. sets now (7 + 5 * i) (toldEvents es)) (drop-cons events i d v)
-            ∙ ap (λ ws. sets now (7 + 5 * i) (ws ++ toldEvents (drop (suc i) events))) (sym w)
-            ∙ sets-append now (7 + 5 * i) words (toldEvents (drop (suc i) events))
+            ∙ ap (λ es. sets now (8 + 5 * i) (toldEvents es)) (drop-cons events i d v)
+            ∙ ap (λ ws. sets now (8 + 5 * i) (ws ++ toldEvents (drop (suc i) events))) (sym w)
+            ∙ sets-append now (8 + 5 * i) words (toldEvents (drop (suc i) events))
             ∙ rw (e, ← n, add-one i);
-        size = rw e (length-sets now (7 + 5 * i) words ∙ p .size);
+        size = rw e (length-sets now (8 + 5 * i) words ∙ p .size);
       }
 
-  pub all-put : 4 ≤ i → now ≡ sets before 7 (toldEvents events)
+  pub all-put : 4 ≤ i → now ≡ sets before 8 (toldEvents events)
   all-put h =
       let v : length events ≤ i = omega (arith, p .four) in
       rw (p .same, drop-of-length-le events {i = i} v)

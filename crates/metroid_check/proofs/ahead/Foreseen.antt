@@ -5,7 +5,7 @@ use mathlib.Core.Path.{_≡_, refl, ap, subst}
 use native.Mathlib.Omega.{arith}
 use lib.ListN.{length}
 use Rattle.metroid_format.specs.declared.header.Track.{Track}
-use Rattle.metroid_format.specs.declared.command.Finish.{Finish}
+use Rattle.metroid_format.specs.declared.timeline.Finish.{Finish}
 use Rattle.metroid_player.specs.Record.{endedPlayer}
 use Rattle.metroid_check.specs.Run.{lastCounted}
 use Rattle.metroid_player.specs.Frame.{frameOfTrack}
@@ -56,7 +56,7 @@ nearer-least (Nearer.used {n = m} d) (sooner h l) = let (k, e, s) = nearer-least
 abbrev pub StopsAt : Track → Player → ℕ → Finish → Framed → Type 0
 StopsAt track player i Finish.End f =
     (f .answer ≡ Answer.End) × (lastCounted (f .counts) ≡ i) × (f .player ≡ endedPlayer (track .restart))
-StopsAt track player i (Finish.Refused number at) f = (f .answer ≡ Answer.Fault number i at) × (f .player ≡ player)
+StopsAt track player i (Finish.Refused number at address) f = (f .answer ≡ Answer.Fault number i at address) × (f .player ≡ player)
 
 -- a frame that answers events, after which the least stop is n frames ahead
 abbrev pub PlaysOn : List ℕ → Track → ℕ → ℕ → Finish → Framed → Type 0

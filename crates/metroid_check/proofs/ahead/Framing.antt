@@ -10,7 +10,7 @@ use lib.ListN.{length, drop, drop-of-length-le}
 use lib.Seq.{sets, sets-eq}
 use Rattle.engine_base.specs.Pick.{pick}
 use Rattle.metroid_format.specs.declared.header.Track.{Track}
-use Rattle.metroid_format.specs.declared.command.Finish.{Finish}
+use Rattle.metroid_format.specs.declared.timeline.Finish.{Finish}
 use Rattle.metroid_player.specs.Record.{four, endedPlayer}
 use Rattle.metroid_player.specs.Event.{offEvent}
 use Rattle.metroid_player.specs.Counts.{most-commands, AtMost}
@@ -83,8 +83,8 @@ module _ (bank : List ℕ) (track : Track) where
     ends : {counts : List ℕ} {i : ℕ} → Due now i Finish.End → lastCounted counts ≡ i →
         FrameOfRun player now
         (record { answer = Answer.End; events = four offEvent; counts = counts; player = endedPlayer (track .restart) })
-    faults : {counts : List ℕ} {i number at : ℕ} → Due now i (Finish.Refused number at) →
-        FrameOfRun player now (record { answer = Answer.Fault number i at; events = four offEvent; counts = counts; player = player })
+    faults : {counts : List ℕ} {i number at address : ℕ} → Due now i (Finish.Refused number at address) →
+        FrameOfRun player now (record { answer = Answer.Fault number i at address; events = four offEvent; counts = counts; player = player })
 
   framed-run : {player : Player} {now : List Ahead} (s : Settled) → length (track .voices) ≡ 4 → InRun player now → Settles bank track 0 (track .voices) now s →
       FrameOfRun player now (framed track player s)

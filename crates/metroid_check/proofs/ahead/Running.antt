@@ -15,7 +15,7 @@ use Rattle.metroid_format.proofs.channel.Offsets.{source-within, Within, until-
 use Rattle.metroid_format.proofs.timeline.Walked.{WalkAfter, read-walk}
 use Rattle.metroid_format.specs.declared.header.Voice.{Voice}
 use Rattle.metroid_format.specs.declared.header.Track.{Track}
-use Rattle.metroid_format.specs.declared.command.Finish.{Finish}
+use Rattle.metroid_format.specs.declared.timeline.Finish.{Finish}
 use Rattle.metroid_format.specs.declared.channel.Cursor.{Cursor}
 use Rattle.metroid_format.specs.declared.channel.Stop.{Stop}
 use Rattle.metroid_player.specs.Record.{cursorOf, soundFits, channelFits}
@@ -66,9 +66,9 @@ module _ (bank : List ℕ) (track : Track) where
         Turns voice (suc n) finish (record { turned = Turned.Plays; began = began; channel = channel; count = count })
     ends : {channel : Channel} {count : ℕ} → 0 < count →
         Turns voice 0 Finish.End (record { turned = Turned.End; began = false; channel = channel; count = count })
-    faults : {channel : Channel} {number at count : ℕ} →
-        Turns voice 0 (Finish.Refused number at)
-        (record { turned = Turned.Refused number at; began = false; channel = channel; count = count })
+    faults : {channel : Channel} {number at address count : ℕ} →
+        Turns voice 0 (Finish.Refused number at address)
+        (record { turned = Turned.Refused number at address; began = false; channel = channel; count = count })
 
   module _ (voice : Voice) where
     abbrev source : Source
@@ -99,7 +99,7 @@ module _ (bank : List ℕ) (track : Track) where
         plays-on true count (begun cursor b) l
         (record { walking = walking; frames = e; walk = w; within = p; looped = q; sounds = λ _. (omega arith, s) })
     turn-by channel cursor count Stop.End h p q (e, f) = rw (e, f) (ends h)
-    turn-by channel cursor count (Stop.Refused number at) h p q (e, f) = rw (e, f) faults
+    turn-by channel cursor count (Stop.Refused number at address) h p q (e, f) = rw (e, f) faults
 
     pub turns : {channel : Channel} {n : ℕ} {finish : Finish} → voice .used ≡ true → Running voice channel n finish →
         Turns voice n finish (turnOf bank track voice channel)

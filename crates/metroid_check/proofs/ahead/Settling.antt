@@ -8,7 +8,7 @@ use lib.ListN.{length}
 use Rattle.engine_base.proofs.Picks.{false-true}
 use Rattle.metroid_format.specs.declared.header.Voice.{Voice}
 use Rattle.metroid_format.specs.declared.header.Track.{Track}
-use Rattle.metroid_format.specs.declared.command.Finish.{Finish}
+use Rattle.metroid_format.specs.declared.timeline.Finish.{Finish}
 use Rattle.metroid_player.specs.Record.{channelsFit}
 use Rattle.metroid_player.specs.Frame.{Settled, settleTurn, settleFrom}
 use Rattle.metroid_player.specs.declared.record.Channel.{Channel}
@@ -81,9 +81,9 @@ module _ (bank : List ℕ) (track : Track) where
         Settles i voices now (record { answer = Answer.Events; events = es; counts = counts; channels = channels })
     ends : {es : List Event} {counts : List ℕ} {channels : List Channel} {k : ℕ} → Due now k Finish.End → CountedTo counts k →
         Settles i voices now (record { answer = Answer.End; events = es; counts = counts; channels = channels })
-    faults : {es : List Event} {counts : List ℕ} {channels : List Channel} {k channel number at : ℕ} → Due now k (Finish.Refused number at) →
+    faults : {es : List Event} {counts : List ℕ} {channels : List Channel} {k channel number at address : ℕ} → Due now k (Finish.Refused number at address) →
         channel ≡ i + k →
-        Settles i voices now (record { answer = Answer.Fault number channel at; events = es; counts = counts; channels = channels })
+        Settles i voices now (record { answer = Answer.Fault number channel at address; events = es; counts = counts; channels = channels })
 
   module _ (i : ℕ) {voices : List Voice} {now : List Ahead} where
     settle-unused : {v : Voice} {channel : Channel} (rest : Settled) → v .used ≡ false → Settles (i + 1) voices now rest →

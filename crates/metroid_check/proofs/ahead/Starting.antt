@@ -16,7 +16,7 @@ use Rattle.metroid_format.proofs.timeline.Walked.{timeline-walk}
 use Rattle.metroid_format.specs.declared.bank.Places.{Places}
 use Rattle.metroid_format.specs.declared.header.Voice.{Voice}
 use Rattle.metroid_format.specs.declared.header.Track.{Track}
-use Rattle.metroid_format.specs.declared.command.Finish.{Finish}
+use Rattle.metroid_format.specs.declared.timeline.Finish.{Finish}
 use Rattle.metroid_player.specs.Record.{freshChannel, freshPlayer, endedPlayer}
 use Rattle.metroid_player.specs.Frame.{unplayed, frameOfTrack, frameOf}
 use Rattle.metroid_player.specs.declared.record.Player.{Player}

@@ -36,13 +36,13 @@ abbrev LoopedBy : ℕ → Step → Type 0
 LoopedBy extra (Step.Again cursor) = Looped extra cursor
 LoopedBy extra (Step.Note b cursor) = Looped extra cursor
 LoopedBy extra Step.End = Unit {0}
-LoopedBy extra (Step.Refused number at) = Unit {0}
+LoopedBy extra (Step.Refused number at address) = Unit {0}
 
 -- what holds where reading stops: a note is one of the channel and longer than 0 frames, and the end counts
 abbrev pub StopHolds : Source → Cursor → ℕ → Stop → Type 0
 StopHolds source cursor count (Stop.Note b) = (0 < cursor .length .count) × (isNote (source .kind) b ≡ true)
 StopHolds source cursor count Stop.End = 0 < count
-StopHolds source cursor count (Stop.Refused number at) = Unit {0}
+StopHolds source cursor count (Stop.Refused number at address) = Unit {0}
 
 module _ (source : Source) where
   abbrev Holds : Until → Type 0
@@ -61,7 +61,7 @@ module _ (source : Source) where
       from further (Step.Again d) e = further d (count + 1)
       from further (Step.Note b d) e = note-holds (count + 1) (rw e at (stepped source cursor))
       from further Step.End e = omega arith
-      from further (Step.Refused number at) e = tt
+      from further (Step.Refused number at address) e = tt
 
   -- from any cursor whatever
   pub stop-holds : (limit : ℕ) (cursor : Cursor) → Holds (readUntil limit source cursor)
@@ -165,7 +165,7 @@ module _ (source : Source) where
             again e (further d (count + 1) (looped-after e p) (omega arith))
         from further (Step.Note b d) e = note e
         from further Step.End e = end e
-        from further (Step.Refused number at) e = refused e
+        from further (Step.Refused number at address) e = refused e
 
     -- the cursor that reading gives is looped as well
     pub reads-looped : {cursor : Cursor} {count : ℕ} {until : Until} → ByCommand source cursor count until →
@@ -223,9 +223,9 @@ module _ (source : Source) where
     count-bound cursor x p = omega (arith, reads-count (reads cursor x p), potential-limit cursor p)
 
 -- so of every call: whatever the data's length and the cursor, whose counter is a byte
-pub never-used-up : (kind : Kind) (bytes lengths : List ℕ) (window : ℕ) (cursor : Cursor) → cursor .counter ≤ 255 →
-    ByCommand (sourceOf kind (take data-limit bytes) lengths window) cursor 0
-    (readUntil data-limit (sourceOf kind (take data-limit bytes) lengths window) cursor)
-never-used-up kind bytes lengths window cursor b =
+pub never-used-up : (kind : Kind) (bytes lengths : List ℕ) (window start : ℕ) (cursor : Cursor) → cursor .counter ≤ 255 →
+    ByCommand (sourceOf kind (take data-limit bytes) lengths window start) cursor 0
+    (readUntil data-limit (sourceOf kind (take data-limit bytes) lengths window start) cursor)
+never-used-up kind bytes lengths window start cursor b =
     let within : length (take data-limit bytes) ≤ data-limit = rw length-take (omega arith) in
-    reads (sourceOf kind (take data-limit bytes) lengths window) (data-limit / 2) 1 within cursor (omega arith) (any-looped cursor b)
+    reads (sourceOf kind (take data-limit bytes) lengths window start) (data-limit / 2) 1 within cursor (omega arith) (any-looped cursor b)

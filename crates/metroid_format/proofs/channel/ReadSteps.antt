@@ -6,7 +6,7 @@ use lib.ListN.{take}
 use Rattle.engine_base.specs.Refusal.{past-data}
 use Rattle.engine_base.specs.Told.{Answers}
 use Rattle.metroid_format.specs.Command.{data-limit}
-use Rattle.metroid_format.specs.Channel.{Source, sourceOf, stepOf, readBy, readFrom, readUntil, toldUntil}
+use Rattle.metroid_format.specs.Channel.{Source, sourceOf, addressAt, stepOf, readBy, readFrom, readUntil, toldUntil}
 use Rattle.engine_base.proofs.Picks.{answers}
 use Rattle.engine_base.proofs.Fuel.{turn}
 use Rattle.metroid_format.specs.declared.command.Kind.{Kind}
@@ -31,15 +31,15 @@ read-turn source cursor count =
 
 pub read-none : (source : Source) (cursor : Cursor) (count fuel : ℕ) (whole : Until) →
     fuel ≡ 0 → readFrom source fuel cursor count ≡ whole →
-    record { stop = Stop.Refused past-data (cursor .next); count = count; cursor = cursor } ≡ whole
+    record { stop = Stop.Refused past-data (cursor .next) (addressAt (source .start) (cursor .next)); count = count; cursor = cursor } ≡ whole
 unfolding readFrom
 read-none source cursor count fuel whole e w = rw e at w
 
 -- the data is what `part` gives
-pub read-cut : (kind : Kind) (bytes part lengths : List ℕ) (window : ℕ) (start : Cursor) (until : Until) → part ≡ take data-limit bytes →
-    until ≡ readUntil data-limit (sourceOf kind part lengths window) start →
-    Answers toldUntil until (readUntil data-limit (sourceOf kind (take data-limit bytes) lengths window) start)
-read-cut kind bytes part lengths window start until e f = answers _ _ _ (f ∙ rw e)
+pub read-cut : (kind : Kind) (bytes part lengths : List ℕ) (window address : ℕ) (start : Cursor) (until : Until) → part ≡ take data-limit bytes →
+    until ≡ readUntil data-limit (sourceOf kind part lengths window address) start →
+    Answers toldUntil until (readUntil data-limit (sourceOf kind (take data-limit bytes) lengths window address) start)
+read-cut kind bytes part lengths window address start until e f = answers _ _ _ (f ∙ rw e)
 
 -- reading from a cursor, with the commands read before, command by command
 pub data ByCommand (source : Source) : Cursor → ℕ → Until → Type 0 where
@@ -49,5 +49,5 @@ pub data ByCommand (source : Source) : Cursor → ℕ → Until → Type 0 where
       ByCommand source cursor count (record { stop = Stop.Note b; count = count + 1; cursor = after })
   end : {cursor : Cursor} {count : ℕ} → stepOf source cursor ≡ Step.End →
       ByCommand source cursor count (record { stop = Stop.End; count = count + 1; cursor = cursor })
-  refused : {cursor : Cursor} {count number at : ℕ} → stepOf source cursor ≡ Step.Refused number at →
-      ByCommand source cursor count (record { stop = Stop.Refused number at; count = count; cursor = cursor })
+  refused : {cursor : Cursor} {count number at address : ℕ} → stepOf source cursor ≡ Step.Refused number at address →
+      ByCommand source cursor count (record { stop = Stop.Refused number at address; count = count; cursor = cursor })

@@ -10,7 +10,7 @@ use lib.ListN.{length, getD}
 use Rattle.engine_base.specs.Refusal.{invalid-command, past-data, FaultWithin}
 use Rattle.metroid_format.specs.Bank.{lengths-size}
 use Rattle.metroid_format.specs.Command.{isNote, commandAt}
-use Rattle.metroid_format.specs.Channel.{Source, lengthFault, lengthAt, counterOf, playedOf, playedBy, playedAt, stepBy, stepOf}
+use Rattle.metroid_format.specs.Channel.{Source, lengthFault, lengthAt, counterOf, playedOf, playedBy, playedAt, addressAt, stepBy, stepOf}
 use Rattle.engine_base.proofs.Picks.{by-test}
 use Rattle.metroid_format.proofs.command.Laws.{Stands, is-end, is-end-loop, is-begin, is-length, is-note, found, refused-near}
 use Rattle.metroid_format.specs.declared.command.Command.{Command}
@@ -52,7 +52,7 @@ length-number lengths window b =
     P m = (m ≡ 0 → ⊥) → (invalid-command ≤ m) × (m ≤ past-data)
 
 -- a note is longer than 0 frames, and a key, rest or preset of the channel; what is not refused stands in the data, and a refusal
--- names the command's offset, or one in the data or at its end
+-- names the command's offset, or one in the data or at its end, and the address there
 pub data Plays (source : Source) (at : ℕ) (current : Frames) : Played → Type 0 where
   end : at < length (source .bytes) → Plays source at current Played.End
   end-loop : at < length (source .bytes) → getD (source .bytes) at 0 ≡ 0xff → Plays source at current (Played.EndLoop (at + 1))
@@ -62,7 +62,7 @@ pub data Plays (source : Source) (at : ℕ) (current : Frames) : Played → Type
       Plays source at current (Played.Length b (record { count = getD (source .lengths) entry 0 }) (at + 1 + 1))
   lone : (b : ℕ) → at < length (source .bytes) → 0 < current .count → isNote (source .kind) b ≡ true →
       Plays source at current (Played.Note b (at + 1))
-  refused : (number place : ℕ) → FaultWithin (max at (length (source .bytes))) number place → Plays source at current (Played.Refused number place)
+  refused : (number place : ℕ) → FaultWithin (max at (length (source .bytes))) number place → Plays source at current (Played.Refused number place (addressAt (source .start) place))
 
 pub plays : (source : Source) (at : ℕ) (current : Frames) → Plays source at current (playedAt source at current)
 unfolding playedAt
@@ -76,7 +76,7 @@ plays source at current =
     b = getD (source .bytes) at 0
 
     stand : {c : Command} {next : ℕ} → Stands (source .kind) (source .bytes) at c next → lengthFault (source .lengths) (source .window) b ≡ 0 →
-        Plays source at current (playedOf (source .lengths) (source .window) at current c next)
+        Plays source at current (playedOf (source .lengths) (source .window) (source .start) at current c next)
     stand (is-end h e) z = end h
     stand (is-end-loop h e) z = end-loop h e
     stand (is-begin n s h e) z = begin-loop (counterOf n) h (λ q. omega arith) (counter-bound n (omega arith))
@@ -89,7 +89,7 @@ plays source at current =
         lone note h (omega arith) y
 
     from : (d : Decoded) → commandAt (source .kind) (source .bytes) at ≡ d → lengthFault (source .lengths) (source .window) b ≡ 0 →
-        Plays source at current (playedBy (playedOf (source .lengths) (source .window) at current) d)
+        Plays source at current (playedBy (source .start) (playedOf (source .lengths) (source .window) (source .start) at current) d)
     from (Decoded.Found c next) e z = stand (found (source .kind) (source .bytes) at e) z
     from (Decoded.Refused number place) e z = refused number place (refused-near (source .kind) (source .bytes) at e)
 
@@ -108,7 +108,8 @@ pub data Stepped (source : Source) (cursor : Cursor) : Step → Type 0 where
       Stepped source cursor
       (Step.Note b (record { next = after; «loop_start» = cursor .«loop_start»; counter = cursor .counter; length = frames }))
   ends : cursor .next < length (source .bytes) → Stepped source cursor Step.End
-  refuses : (number at : ℕ) → FaultWithin (max (cursor .next) (length (source .bytes))) number at → Stepped source cursor (Step.Refused number at)
+  refuses : (number at : ℕ) → FaultWithin (max (cursor .next) (length (source .bytes))) number at →
+      Stepped source cursor (Step.Refused number at (addressAt (source .start) at))
 
 pub stepped : (source : Source) (cursor : Cursor) → Stepped source cursor (stepOf source cursor)
 unfolding stepOf

@@ -19,7 +19,6 @@ use Rattle.metroid_format.specs.declared.command.Command.{Command}
 use Rattle.metroid_format.specs.declared.command.Command.the-variants.{End, EndLoop, BeginLoop, Length, Note}
 use Rattle.metroid_format.specs.declared.command.Decoded.{Decoded}
 use Rattle.metroid_format.specs.declared.command.Decoded.the-variants.{Found, Refused}
-use Rattle.metroid_format.specs.declared.command.Finish.{Finish}
 use Rattle.engine_base.proofs.Picks.{by-test, false-true, picks}
 
 -- a command that stands at an offset, with the offset after it
@@ -29,11 +28,6 @@ pub data Stands (kind : Kind) (bytes : List ℕ) (at : ℕ) : Command → ℕ �
   is-begin : (n : ℕ) → n < 63 → at < length bytes → getD bytes at 0 ≡ 0xc0 + n → Stands kind bytes at (BeginLoop n) (at + 1)
   is-length : (l note : ℕ) → l < 16 → isNote kind note ≡ true → at + 1 < length bytes → getD bytes at 0 ≡ 0xb0 + l → getD bytes (at + 1) 0 ≡ note → Stands kind bytes at (Length l note) (at + 1 + 1)
   is-note : (b : ℕ) → 0 < b → b < 0x80 → isNote kind b ≡ true → at < length bytes → getD bytes at 0 ≡ b → Stands kind bytes at (Note b) (at + 1)
-
--- how data stop, within a limit
-abbrev pub FinishWithin : ℕ → Finish → Type 0
-FinishWithin limit Finish.End = Unit {0}
-FinishWithin limit (Finish.Refused number at) = FaultWithin limit number at
 
 pub fault-further : (limit more number at : ℕ) → limit ≤ more → FaultWithin limit number at → FaultWithin more number at
 fault-further limit more number at h (low, high, w) = (low, high, omega arith)

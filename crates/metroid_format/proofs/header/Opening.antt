@@ -2,7 +2,7 @@
 use Prim.Native.Nat.{ℕ, _+_, _/_, _<_, _≤_}
 use mathlib.Core.Bool.{Bool, true, false}
 use mathlib.Core.List.{List, [], _∷_}
-use mathlib.Core.Path.{_≡_, refl, sym}
+use mathlib.Core.Path.{_≡_, refl, sym, ap, _∙_}
 use native.Mathlib.Omega.{arith}
 use borrow.Author.Tests.{eqb-true, leb-true}
 use borrow.Author.Needs.{needs}
@@ -21,7 +21,7 @@ use Rattle.engine_base.specs.Refusal.{
   no-channel,
   Unopened,
 }
-use Rattle.engine_base.specs.Address.{bank-start, bank-end, offsetOf, within}
+use Rattle.engine_base.specs.Address.{bank-start, bank-end, offsetOf, addressOf, within}
 use Rattle.metroid_format.specs.Bank.{bank-size}
 use Rattle.engine_base.specs.Pick.{all}
 use Rattle.metroid_format.specs.Envelope.{envelopeAddress}
@@ -44,6 +44,7 @@ use Rattle.metroid_format.specs.Header.{
   voicesOf,
   trackOf,
   openTrack,
+  channelStart,
 }
 use Rattle.engine_base.proofs.Picks.{by-test, false-true}
 use Rattle.metroid_format.specs.declared.command.Kind.{Kind}
@@ -51,20 +52,25 @@ use Rattle.metroid_format.specs.declared.bank.Places.{Places}
 use Rattle.metroid_format.specs.declared.header.Voice.{Voice}
 use Rattle.metroid_format.specs.declared.header.Track.{Track}
 
-abbrev pub Every : (Voice → Type 0) → List Voice → Type 0
-Every P [] = Unit
-Every P (v ∷ vs) = P v × Every P vs
+-- a channel's data start in the bank (offset 0 of an unused one), and a used one's at its start address
+pub record StartsAt (start : ℕ) (voice : Voice) : Type 0 where
+  pub inside : voice .«data» < bank-size
+  pub address : voice .used ≡ true → addressOf (voice .«data») ≡ start
+
+-- of the i-th channel and those after it
+abbrev pub AllStart : (ℕ → ℕ) → ℕ → List Voice → Type 0
+AllStart start i [] = Unit {0}
+AllStart start i (v ∷ vs) = StartsAt (start i) v × AllStart start (i + 1) vs
 
 pub data SomeUsed : List Voice → Type 0 where
   here : {v : Voice} {vs : List Voice} → v .used ≡ true → SomeUsed (v ∷ vs)
   later : {v : Voice} {vs : List Voice} → SomeUsed vs → SomeUsed (v ∷ vs)
 
-pub record Opens (bank : List ℕ) (track : Track) : Type 0 where
+pub record Opens (bank : List ℕ) (start : ℕ → ℕ) (track : Track) : Type 0 where
   pub size : length bank ≡ bank-size
   pub four : length (track .voices) ≡ 4
   pub low : track .window < 32
-  -- that of an unused voice is 0
-  pub starts : Every (λ v. v .«data» < bank-size) (track .voices)
+  pub starts : AllStart start 0 (track .voices)
   pub some : SomeUsed (track .voices)
 
 both : (a b : Bool) → pick a b false ≡ true → (a ≡ true) × (b ≡ true)
@@ -99,7 +105,8 @@ voice-offset bank table k address number ctrl1 =
     offset-either (eqb address 0) (eqb number 0) k address ctrl1 (offsetOf (envelopeAddress bank table number))
     (eqb-true address 0)
 
-address-offset : (address : ℕ) → addressFits address ≡ true → offsetOf address < bank-size
+address-offset : (address : ℕ) → addressFits address ≡ true
+    → (offsetOf address < bank-size) × (eqb address 0 ≡ false → addressOf (offsetOf address) ≡ address)
 unfolding addressFits within
 address-offset address e = by (eqb address 0) (eqb-true address 0) e
   where
@@ -107,25 +114,45 @@ address-offset address e = by (eqb address 0) (eqb-true address 0) e
     last = all (leb (address + 1) bank-end ∷ [])
 
     by : (unused : Bool) → (unused ≡ true → address ≡ 0)
-        → pick unused true (pick (leb bank-start address) last false) ≡ true → offsetOf address < bank-size
-    by true h e = omega (arith, h refl)
-    by false h e = omega (arith, leb-true (address + 1) bank-end (both _ true (both (leb bank-start address) last e .1) .0))
+        → pick unused true (pick (leb bank-start address) last false) ≡ true
+        → (offsetOf address < bank-size) × (unused ≡ false → addressOf (offsetOf address) ≡ address)
+    by true h e = (omega (arith, h refl), λ z. absurd (false-true (sym z)))
+    by false h e =
+        let inside = both (leb bank-start address) last e in
+        let low = leb-true bank-start address (inside .0) in
+        (omega (arith, leb-true (address + 1) bank-end (both _ true (inside .1) .0)), λ _. omega arith)
+
+used-address : (unused none : Bool) (k : Kind) (address ctrl1 at : ℕ)
+    → pick unused (unusedVoice k) (pick none (usedVoice k address ctrl1 false 0) (usedVoice k address ctrl1 true at)) .used ≡ true
+    → unused ≡ false
+used-address true none k address ctrl1 at e = absurd (false-true e)
+used-address false none k address ctrl1 at e = refl
+
+voice-start : (bank : List ℕ) (table : ℕ) (k : Kind) (address number ctrl1 : ℕ)
+    → addressFits address ≡ true → StartsAt address (voiceOf bank table k address number ctrl1)
+unfolding voiceOf
+voice-start bank table k address number ctrl1 e =
+    let offset = voice-offset bank table k address number ctrl1 in
+    let inside = address-offset address e in
+    record {
+      inside = omega (arith, offset, inside .0);
+      address = λ u.
+          ap addressOf offset
+          ∙ inside .1 (used-address (eqb address 0) (eqb number 0) k address ctrl1 (offsetOf (envelopeAddress bank table number)) u);
+    }
 
 voices-start : (bank : List ℕ) (places : Places) (header : List ℕ)
-    → addressesFit header ≡ true → Every (λ v. v .«data» < bank-size) (voicesOf bank places header)
+    → addressesFit header ≡ true → AllStart (channelStart header) 0 (voicesOf bank places header)
 unfolding addressesFit voicesOf
 voices-start bank places header e =
     let square1 = both _ _ e in
     let square2 = both _ _ (square1 .1) in
     let triangle = both _ _ (square2 .1) in
     let noise = both _ _ (triangle .1) in (
-      rw voice-offset (address-offset _ (square1 .0)),
+      voice-start _ _ _ _ _ _ (square1 .0),
       (
-        rw voice-offset (address-offset _ (square2 .0)),
-        (
-          rw voice-offset (address-offset _ (triangle .0)),
-          (rw voice-offset (address-offset _ (noise .0)), tt),
-        ),
+        voice-start _ _ _ _ _ _ (square2 .0),
+        (voice-start _ _ _ _ _ _ (triangle .0), (voice-start _ _ _ _ _ _ (noise .0), tt)),
       ),
     )
 
@@ -153,7 +180,7 @@ voices-used bank places header e =
 track-opens : (bank : List ℕ) (places : Places) (header : List ℕ)
     → length bank ≡ bank-size
     → headerNumber bank (places .«envelope_addresses») header ≡ 0
-    → Opens bank (trackOf bank places header)
+    → Opens bank (channelStart header) (trackOf bank places header)
 unfolding headerNumber windowFits trackOf voicesOf
 track-opens bank places header size e =
     let low = passed (windowFits header) window-too-high _ (omega arith) e in
@@ -170,7 +197,7 @@ track-opens bank places header size e =
 
 pub opens : (bank : List ℕ) (places : Places) (track : ℕ)
     → openTrack bank places track .number ≡ 0
-    → Opens bank (openTrack bank places track .track)
+    → Opens bank (channelStart (headerOf bank places track)) (openTrack bank places track .track)
 unfolding openTrack numberOf
 opens bank places track e =
     let size = passed (eqb (length bank) bank-size) wrong-size _ (omega arith) e in

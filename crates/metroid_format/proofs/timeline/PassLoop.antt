@@ -3,13 +3,13 @@ use Prim.Native.Nat.{ℕ, _+_, _-_, _*_, _≤_, _<_}
 use mathlib.Core.Path.{_≡_, refl}
 use lib.ListN.{length, getD}
 use Rattle.engine_base.specs.Refusal.{past-data}
-use Rattle.metroid_format.specs.Channel.{Source}
+use Rattle.metroid_format.specs.Channel.{Source, addressAt}
 use Rattle.metroid_format.specs.Timeline.{frames-a-byte, passedOf, passBy, passFrom, timelineOf, Timed}
 use Rattle.engine_base.proofs.Picks.{answers}
 use Rattle.engine_base.proofs.Fuel.{turn}
 use Rattle.metroid_format.proofs.timeline.PassBound.{Bounded, BoundedBy, bounded}
 use Rattle.metroid_format.proofs.timeline.Walked.{timeline-walk}
-use Rattle.metroid_format.specs.declared.command.Finish.{Finish}
+use Rattle.metroid_format.specs.declared.timeline.Finish.{Finish}
 use Rattle.metroid_format.specs.declared.timeline.Timeline.{Timeline}
 use Rattle.metroid_format.specs.declared.timeline.Pass.{Pass}
 use Rattle.metroid_format.specs.declared.timeline.Passed.{Passed}
@@ -23,7 +23,7 @@ module _ (source : Source) (pass : Pass) where
   pass-turn = turn (passFrom source) passBy (passedOf source) (λ fuel s. refl) pass
 
   pub pass-none : (fuel : ℕ) (whole : Timeline) → fuel ≡ 0 → passFrom source fuel pass ≡ whole →
-      record { frames = pass .frames; finish = Finish.Refused past-data (pass .next) } ≡ whole
+      record { frames = pass .frames; finish = Finish.Refused past-data (pass .next) (addressAt (source .start) (pass .next)) } ≡ whole
   unfolding passFrom
   pass-none fuel whole e w = rw e at w
 

@@ -10,7 +10,7 @@ use lib.ListN.{length, getD}
 use Rattle.engine_base.specs.Pick.{pick}
 use Rattle.engine_base.specs.Refusal.{no-length}
 use Rattle.metroid_format.specs.Command.{commandAt}
-use Rattle.metroid_format.specs.Channel.{Source, freshCursor, lengthFault, playedOf, playedBy, playedAt, stepBy, stepOf}
+use Rattle.metroid_format.specs.Channel.{Source, addressAt, freshCursor, lengthFault, playedOf, playedBy, playedAt, stepBy, stepOf}
 use Rattle.metroid_format.specs.Timeline.{Walk, again, note, ended, refused, afterLone, passedBy, passedOf, passBy, passFrom, freshPass, timelineOf}
 use Rattle.metroid_format.proofs.channel.Stepped.{Plays, plays}
 use Rattle.metroid_format.proofs.channel.ReadSteps.{ByCommand}
@@ -22,7 +22,7 @@ use Rattle.metroid_format.specs.declared.channel.Played.{Played}
 use Rattle.metroid_format.specs.declared.channel.Step.{Step}
 use Rattle.metroid_format.specs.declared.channel.Stop.{Stop}
 use Rattle.metroid_format.specs.declared.channel.Until.{Until}
-use Rattle.metroid_format.specs.declared.command.Finish.{Finish}
+use Rattle.metroid_format.specs.declared.timeline.Finish.{Finish}
 use Rattle.metroid_format.specs.declared.timeline.Pass.{Pass}
 use Rattle.metroid_format.specs.declared.timeline.Passed.{Passed}
 
@@ -32,7 +32,7 @@ WalkBy source (Step.Again after) frames finish = Walk source after frames finish
 WalkBy source (Step.Note b after) frames finish =
     (left : ℕ) × (frames ≡ after .length .count + left) × Walk source after left finish
 WalkBy source Step.End frames finish = (frames ≡ 0) × (finish ≡ Finish.End)
-WalkBy source (Step.Refused number at) frames finish = (frames ≡ 0) × (finish ≡ Finish.Refused number at)
+WalkBy source (Step.Refused number at address) frames finish = (frames ≡ 0) × (finish ≡ Finish.Refused number at address)
 
 module _ {source : Source} where
   pub walked-by : {cursor : Cursor} {frames : ℕ} {finish : Finish} → Walk source cursor frames finish →
@@ -51,15 +51,15 @@ module _ {source : Source} where
   walk-unique {n = n} {g = g} (ended e) v =
       let (h, q) : WalkBy source Step.End n g = rw e at (walked-by v) in
       (sym h, sym q)
-  walk-unique {n = n} {g = g} (refused {number} {at} e) v =
-      let (h, q) : WalkBy source (Step.Refused number at) n g = rw e at (walked-by v) in
+  walk-unique {n = n} {g = g} (refused {number} {at} {address} e) v =
+      let (h, q) : WalkBy source (Step.Refused number at address) n g = rw e at (walked-by v) in
       (sym h, sym q)
 
 -- what is left of a walk where reading stops
 abbrev pub WalkAfter : Source → Cursor → Stop → ℕ → Finish → Type 0
 WalkAfter source cursor (Stop.Note b) frames finish = (left : ℕ) × (frames ≡ cursor .length .count + left) × Walk source cursor left finish
 WalkAfter source cursor Stop.End frames finish = (frames ≡ 0) × (finish ≡ Finish.End)
-WalkAfter source cursor (Stop.Refused number at) frames finish = (frames ≡ 0) × (finish ≡ Finish.Refused number at)
+WalkAfter source cursor (Stop.Refused number at address) frames finish = (frames ≡ 0) × (finish ≡ Finish.Refused number at address)
 
 pub read-walk : {source : Source} {cursor : Cursor} {count frames : ℕ} {until : Until} {finish : Finish} →
     ByCommand source cursor count until → Walk source cursor frames finish →
@@ -99,7 +99,7 @@ Replays length (Played.EndLoop next) = Unit {0}
 Replays length (Played.BeginLoop counter next) = Unit {0}
 Replays length (Played.Length b after next) = Unit {0}
 Replays length (Played.Note b next) = 0 < length .count
-Replays length (Played.Refused number place) = ⊥
+Replays length (Played.Refused number place address) = ⊥
 
 replays : (source : Source) (at : ℕ) (m n : Frames) (p : Played) → Replays n p → playedAt source at m ≡ p → playedAt source at n ≡ p
 unfolding playedAt
@@ -107,10 +107,10 @@ replays source at m n p r e =
     go (eqb (lengthFault (source .lengths) (source .window) (getD (source .bytes) at 0)) 0) (commandAt (source .kind) (source .bytes) at) _ e
   where
     play : Frames → Decoded → Played
-    play length d = playedBy (playedOf (source .lengths) (source .window) at length) d
+    play length d = playedBy (source .start) (playedOf (source .lengths) (source .window) (source .start) at length) d
 
-    lone : (t : Bool) (b next : ℕ) → pick t (Played.Refused no-length at) (Played.Note b next) ≡ p →
-        pick (eqb (n .count) 0) (Played.Refused no-length at) (Played.Note b next) ≡ p
+    lone : (t : Bool) (b next : ℕ) → pick t (Played.Refused no-length at (addressAt (source .start) at)) (Played.Note b next) ≡ p →
+        pick (eqb (n .count) 0) (Played.Refused no-length at (addressAt (source .start) at)) (Played.Note b next) ≡ p
     lone true b next e = absurd (subst (Replays n) (sym e) r)
     lone false b next e =
         let long : 0 < n .count = subst (Replays n) (sym e) r in

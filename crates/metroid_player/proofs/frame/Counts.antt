@@ -61,7 +61,7 @@ module _ (most : ℕ) where
   settle-by-most bank track i v t Turned.Off rest h a = (h, a)
   settle-by-most bank track i v t Turned.Plays rest h a = (h, a)
   settle-by-most bank track i v t Turned.End rest h a = (h, tt)
-  settle-by-most bank track i v t (Turned.Refused number at) rest h a = (h, tt)
+  settle-by-most bank track i v t (Turned.Refused number at address) rest h a = (h, tt)
 
   framed-most : (track : Track) (player : Player) (s : Settled) (answer : Answer) → AtMost most (s .counts) →
       AtMost most (framedBy track player s answer .counts)
@@ -69,13 +69,13 @@ module _ (most : ℕ) where
   framed-most track player s Answer.End a = sets-most (four 0) 0 (s .counts) a none-most
   framed-most track player s Answer.Stopped a = none-most
   framed-most track player s (Answer.Refused number) a = none-most
-  framed-most track player s (Answer.Fault number i at) a = sets-most (four 0) 0 (s .counts) a none-most
+  framed-most track player s (Answer.Fault number i at address) a = sets-most (four 0) 0 (s .counts) a none-most
 
 module _ (bank : List ℕ) (track : Track) (extra : ℕ) (one : extra ≤ 1) where
   turn-by-count : (channel : Channel) (cursor : Cursor) (count : ℕ) (stop : Stop) → turnBy channel cursor count stop .count ≡ count
   turn-by-count channel cursor count (Stop.Note b) = refl
   turn-by-count channel cursor count Stop.End = refl
-  turn-by-count channel cursor count (Stop.Refused number at) = refl
+  turn-by-count channel cursor count (Stop.Refused number at address) = refl
 
   turn-count : (voice : Voice) (channel : Channel) → (voice .used ≡ true → Looped extra (cursorOf channel)) →
       turnOf bank track voice channel .count ≤ most-commands + extra

@@ -19,7 +19,7 @@ KeptBy player f Answer.Events = Unit {0}
 KeptBy player f Answer.End = Unit {0}
 KeptBy player f Answer.Stopped = (f .player ≡ player) × (f .counts ≡ four 0)
 KeptBy player f (Answer.Refused number) = (f .player ≡ player) × (f .counts ≡ four 0)
-KeptBy player f (Answer.Fault number i at) = f .player ≡ player
+KeptBy player f (Answer.Fault number i at address) = f .player ≡ player
 
 abbrev pub Kept : Player → Framed → Type 0
 Kept player f = KeptBy player f (f .answer)
@@ -29,7 +29,7 @@ framed-kept track player s Answer.Events = tt
 framed-kept track player s Answer.End = tt
 framed-kept track player s Answer.Stopped = (refl, refl)
 framed-kept track player s (Answer.Refused number) = (refl, refl)
-framed-kept track player s (Answer.Fault number i at) = refl
+framed-kept track player s (Answer.Fault number i at address) = refl
 
 track-kept : (bank : List ℕ) (track : Track) (player : Player) → Kept player (frameOfTrack bank track player)
 unfolding frameOfTrack

@@ -10,6 +10,7 @@ use lib.ListN.{length, getD, set, take, drop, drop-of-length-le, length-set}
 use lib.Seq.{sets, take-take, drop-cons, drop-drop, drop-set-lt}
 use borrow.Author.Tests.{leb-true}
 use Rattle.engine_base.specs.Pick.{pick}
+use Rattle.engine_base.specs.Address.{addressOf}
 use Rattle.metroid_format.specs.Command.{data-limit}
 use Rattle.metroid_format.specs.Channel.{sourceOf, channelSource, readUntil, toldUntil}
 use Rattle.engine_base.specs.Told.{Answers}
@@ -20,7 +21,6 @@ use Rattle.metroid_format.specs.declared.channel.Cursor.{Cursor}
 use Rattle.metroid_format.specs.declared.channel.Stop.{Stop}
 use Rattle.metroid_format.specs.declared.channel.Until.{Until}
 use Rattle.engine_base.proofs.Picks.{by-test, false-true, pick-true, pick-false, pick-eq, pick-ne}
-use Rattle.metroid_format.proofs.channel.Offsets.{source-within, until-within}
 use Rattle.metroid_player.specs.Record.{four, endedPlayer, cursorOf, channelFits, channelsFit}
 use Rattle.metroid_player.specs.Event.{offEvent, eventOf}
 use Rattle.metroid_player.specs.Frame.{begun, turnBy, oneOff, turnOfUntil, turnOf, Settled, settled, settleOn, settleBy, settleTurn, settleFrom, eventless, framed}
@@ -97,7 +97,7 @@ pub reading-is : (bank : List ℕ) (track : Track) (v : Voice) (c : Channel)
     (bytes : List ℕ) → bytes ≡ take data-limit (drop (v .«data») bank)
     → (lengths : List ℕ) → lengths ≡ take lengths-size (drop (track .lengths) bank)
     → (cursor : Cursor) → cursor ≡ cursorOf c
-    → (r : Until) → Answers toldUntil r (readUntil data-limit (sourceOf (v .kind) (take data-limit bytes) lengths (track .window)) cursor)
+    → (r : Until) → Answers toldUntil r (readUntil data-limit (sourceOf (v .kind) (take data-limit bytes) lengths (track .window) (addressOf (v .«data»))) cursor)
     → r ≡ readUntil data-limit (channelSource bank track v) (cursorOf c)
 reading-is bank track v c bytes d lengths l cursor k r a =
     let same : data-limit ≤ data-limit = omega arith in
@@ -113,13 +113,6 @@ module _ (c : Channel) (r q : Until) (e : r ≡ q) where
   turn-begun b s begins f = rw f (turn-read (Stop.Note b) s)
 
 module _ (bank : List ℕ) (track : Track) (v : Voice) (c : Channel) where
-  -- from a record that passes 16 the offsets stay within the limit
-  pub stays-within : (r : Until) → r ≡ readUntil data-limit (channelSource bank track v) (cursorOf c) → (c .next ≤ data-limit) × (c .«loop_start» ≤ data-limit)
-      → (r .cursor .next ≤ data-limit) × (r .cursor .«loop_start» ≤ data-limit)
-  stays-within r e h =
-      let q = until-within (channelSource bank track v) data-limit (source-within bank track v) (cursorOf c) (record { next = h .0; start = h .1 }) in
-      rw e (q .cursor .next, q .cursor .start)
-
   -- by its use and the frames left
   pub turn-reading : (t : Turn) → v .used ≡ true → c .left .count ≡ 0 → t ≡ turnOfUntil c (readUntil data-limit (channelSource bank track v) (cursorOf c)) → t ≡ turnOf bank track v c
   unfolding turnOf
@@ -148,22 +141,20 @@ module _ (bank : List ℕ) (track : Track) (player : Player) where
     pub counts-four : length counts ≡ 4
     pub channels-four : length channels ≡ 4
     pub rest-given : drop i channels ≡ drop i (player .channels)
-    pub rest-fits : channelsFit (drop i (track .voices)) (drop i (player .channels)) ≡ true
     pub same-answer : whole .answer ≡ settledFrom i .answer
     pub same-events : sets (four offEvent) 0 (whole .events) ≡ sets events i (settledFrom i .events)
     pub same-counts : sets (four 0) 0 (whole .counts) ≡ sets counts i (settledFrom i .counts)
     pub same-channels : sets (player .channels) 0 (whole .channels) ≡ sets channels i (settledFrom i .channels)
 
-  pub settling-none : length (track .voices) ≡ 4 → length (player .channels) ≡ 4 → channelsFit (track .voices) (player .channels) ≡ true
+  pub settling-none : length (track .voices) ≡ 4 → length (player .channels) ≡ 4
       → (events : List Event) → events ≡ four offEvent → Settling events (four 0) (player .channels) 0
-  settling-none v c f events e = record {
+  settling-none v c events e = record {
     within = omega arith;
     voices-four = v;
     events-four = rw e;
     counts-four = refl;
     channels-four = c;
     rest-given = refl;
-    rest-fits = f;
     same-answer = refl;
     same-events = rw e;
     same-counts = refl;
@@ -214,17 +205,6 @@ module _ (bank : List ℕ) (track : Track) (player : Player) where
       channels-next : drop i (player .channels) ≡ channel ∷ drop (i + 1) (player .channels)
       channels-next = sym (m .rest-given) ∙ channels-here ∙ rw given-next
 
-      fits-here : pick (channelFits voice channel) (channelsFit (drop (i + 1) (track .voices)) (drop (i + 1) (player .channels))) false ≡ true
-      fits-here = rw (voices-next, channels-next) at (m .rest-fits)
-
-      both-fit : (channelFits voice channel ≡ true) × (channelsFit (drop (i + 1) (track .voices)) (drop (i + 1) (player .channels)) ≡ true)
-      both-fit =
-          by-test (λ x. x ≡ true → (channelFits voice channel ≡ true) × (channelsFit (drop (i + 1) (track .voices)) (drop (i + 1) (player .channels)) ≡ true))
-          (channelFits voice channel) (λ t r. (t, r)) (λ _ z. absurd (false-true z)) fits-here
-
-      pub turn-fits : channelFits voice channel ≡ true
-      turn-fits = both-fit .0
-
       settled-next : settledFrom i ≡ settleTurn bank track i voice (turnOf bank track voice channel) (settledFrom (i + 1))
       unfolding settleFrom
       settled-next = rw (voices-next, channels-next)
@@ -243,7 +223,6 @@ module _ (bank : List ℕ) (track : Track) (player : Player) where
           counts-four = length-set counts i (t .count) ∙ m .counts-four;
           channels-four = length-set channels i next ∙ m .channels-four;
           rest-given = drop-set-lt (i + 1) channels i next (omega arith) ∙ given-next;
-          rest-fits = both-fit .1;
           same-answer = m .same-answer ∙ rw s;
           same-events = m .same-events ∙ rw (s, add-one i);
           same-counts = m .same-counts ∙ rw (s, add-one i);
@@ -267,10 +246,10 @@ module _ (bank : List ℕ) (track : Track) (player : Player) where
             let n : sets (four 0) 0 (whole .counts) ≡ set counts i (t .count) = m .same-counts ∙ rw s in
             g ∙ rw (a, n, d)
 
-        pub settles-fault : (number at : ℕ) → t .turned ≡ Turned.Refused number at
-            → (f : Framed) → f ≡ eventless (Answer.Fault number i at) (set counts i (t .count)) player → f ≡ framed track player whole
-        settles-fault number at e f g =
+        pub settles-fault : (number at address : ℕ) → t .turned ≡ Turned.Refused number at address
+            → (f : Framed) → f ≡ eventless (Answer.Fault number i at address) (set counts i (t .count)) player → f ≡ framed track player whole
+        settles-fault number at address e f g =
             let s = settled-by _ e in
-            let a : whole .answer ≡ Answer.Fault number i at = m .same-answer ∙ rw s in
+            let a : whole .answer ≡ Answer.Fault number i at address = m .same-answer ∙ rw s in
             let n : sets (four 0) 0 (whole .counts) ≡ set counts i (t .count) = m .same-counts ∙ rw s in
             g ∙ rw (a, n)

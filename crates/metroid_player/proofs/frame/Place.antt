@@ -1,19 +1,21 @@
--- A refused frame has a number of document 01's table; 10 to 15 name one of the four channels and an offset in its data or at its end.
+-- A refused frame has a number of document 01's table; 10 to 15 name one of the four channels, an offset in its data or at its end, and
+-- the address there: the channel's start address plus the offset.
 use Prim.Native.Nat.{ℕ, _+_, _<_}
 use mathlib.Core.Bool.{true}
 use mathlib.Core.List.{List, [], _∷_}
-use mathlib.Core.Path.{_≡_}
+use mathlib.Core.Path.{_≡_, subst}
 use native.Mathlib.Omega.{arith}
 use borrow.Author.Tests.{eqb-true, eqb-false}
 use lib.Dec.{eqb}
 use lib.ListN.{length}
-use Rattle.engine_base.specs.Refusal.{FaultWithin}
+use Rattle.engine_base.specs.Address.{addressOf}
+use Rattle.engine_base.specs.Refusal.{FaultAt}
 use Rattle.metroid_format.specs.Command.{data-limit}
 use Rattle.metroid_format.specs.Channel.{channelSource, readUntil}
-use Rattle.metroid_format.specs.Header.{openTrack}
+use Rattle.metroid_format.specs.Header.{openTrack, headerOf, channelStart}
 use Rattle.engine_base.proofs.Picks.{by-test, false-true}
-use Rattle.metroid_format.proofs.header.Opening.{opens, unopened}
-use Rattle.metroid_format.proofs.channel.Offsets.{source-within, StopWithin, until-within}
+use Rattle.metroid_format.proofs.header.Opening.{AllStart, Opens, opens, unopened}
+use Rattle.metroid_format.proofs.channel.Offsets.{source-within, Within, StopWithin, until-within}
 use Rattle.metroid_format.specs.declared.bank.Places.{Places}
 use Rattle.metroid_format.specs.declared.header.Voice.{Voice}
 use Rattle.metroid_format.specs.declared.header.Track.{Track}
@@ -29,71 +31,87 @@ use Rattle.engine_base.specs.declared.answer.Answer.{Answer}
 use Rattle.metroid_player.specs.declared.frame.Framed.{Framed}
 use Rattle.metroid_player.proofs.frame.Laws.{next-fits, start-fits}
 
-abbrev TurnWithin : Turned → Type 0
-TurnWithin Turned.Off = Unit {0}
-TurnWithin Turned.Plays = Unit {0}
-TurnWithin Turned.End = Unit {0}
-TurnWithin (Turned.Refused number at) = FaultWithin data-limit number at
+abbrev TurnWithin : ℕ → Turned → Type 0
+TurnWithin start Turned.Off = Unit {0}
+TurnWithin start Turned.Plays = Unit {0}
+TurnWithin start Turned.End = Unit {0}
+TurnWithin start (Turned.Refused number at address) = FaultAt start data-limit number at address
 
-module _ (bank : List ℕ) (track : Track) where
-  by-stop : (c : Channel) (cursor : Cursor) (count : ℕ) (stop : Stop) → StopWithin data-limit stop → TurnWithin (turnBy c cursor count stop .turned)
-  by-stop c cursor count (Stop.Note b) h = tt
-  by-stop c cursor count Stop.End h = tt
-  by-stop c cursor count (Stop.Refused number at) h = h
+module _ (bank : List ℕ) (track : Track) (start : ℕ → ℕ) where
+  by-stop : (first : ℕ) (c : Channel) (cursor : Cursor) (count : ℕ) (stop : Stop) → StopWithin first data-limit stop →
+      TurnWithin first (turnBy c cursor count stop .turned)
+  by-stop first c cursor count (Stop.Note b) h = tt
+  by-stop first c cursor count Stop.End h = tt
+  by-stop first c cursor count (Stop.Refused number at address) h = h
 
-  turn-within : (v : Voice) (c : Channel) → channelFits v c ≡ true → TurnWithin (turnOf bank track v c .turned)
+  turn-within : (first : ℕ) (v : Voice) (c : Channel) → (v .used ≡ true → addressOf (v .«data») ≡ first) → channelFits v c ≡ true →
+      TurnWithin first (turnOf bank track v c .turned)
   unfolding turnOf
-  turn-within v c f =
-      by-test (λ (t : Turn). TurnWithin (t .turned)) (v .used)
+  turn-within first v c s f =
+      by-test (λ (t : Turn). TurnWithin first (t .turned)) (v .used)
       (λ u.
-      by-test (λ (t : Turn). TurnWithin (t .turned)) (eqb (c .left .count) 0)
+      by-test (λ (t : Turn). TurnWithin first (t .turned)) (eqb (c .left .count) 0)
       (λ _.
-      by-stop c _ _ (readUntil data-limit (channelSource bank track v) (cursorOf c) .stop)
-      (until-within (channelSource bank track v) data-limit (source-within bank track v) (cursorOf c) (record { next = next-fits v c u f; start = start-fits v c u f }) .stop)) λ _.
+      let until = readUntil data-limit (channelSource bank track v) (cursorOf c) in
+      let placed : Within data-limit (cursorOf c) = record { next = next-fits v c u f; start = start-fits v c u f } in
+      by-stop first c _ _ (until .stop)
+      (subst (λ a. StopWithin a data-limit (until .stop)) (s u)
+      (until-within (channelSource bank track v) data-limit (source-within bank track v) (cursorOf c) placed .stop))) λ _.
       tt) λ _.
       tt
 
-  by-turned : (n i : ℕ) (v : Voice) (t : Turn) (turned : Turned) (rest : Settled) → i < n → TurnWithin turned → AnswerWithin n (rest .answer) →
-      AnswerWithin n (settleBy bank track i v t turned rest .answer)
+  by-turned : (n i : ℕ) (v : Voice) (t : Turn) (turned : Turned) (rest : Settled) → i < n → TurnWithin (start i) turned →
+      AnswerWithin start n (rest .answer) → AnswerWithin start n (settleBy bank track i v t turned rest .answer)
   by-turned n i v t Turned.Off rest h w b = b
   by-turned n i v t Turned.Plays rest h w b = b
   by-turned n i v t Turned.End rest h w b = tt
-  by-turned n i v t (Turned.Refused number at) rest h w b = (h, w)
+  by-turned n i v t (Turned.Refused number at address) rest h w b = (h, w)
 
-  settle-within : (n i : ℕ) (vs : List Voice) (cs : List Channel) → n ≡ i + length vs → channelsFit vs cs ≡ true →
-      AnswerWithin n (settleFrom bank track i vs cs .answer)
+  settle-within : (n i : ℕ) (vs : List Voice) (cs : List Channel) → n ≡ i + length vs → AllStart start i vs → channelsFit vs cs ≡ true →
+      AnswerWithin start n (settleFrom bank track i vs cs .answer)
   unfolding settleFrom
-  settle-within n i [] cs e f = tt
-  settle-within n i (v ∷ vs) [] e f = tt
-  settle-within n i (v ∷ vs) (c ∷ cs) e f =
-      by-test (λ b. b ≡ true → AnswerWithin n (settleFrom bank track i (v ∷ vs) (c ∷ cs) .answer)) (channelFits v c)
+  settle-within n i [] cs e s f = tt
+  settle-within n i (v ∷ vs) [] e s f = tt
+  settle-within n i (v ∷ vs) (c ∷ cs) e (s, ss) f =
+      by-test (λ b. b ≡ true → AnswerWithin start n (settleFrom bank track i (v ∷ vs) (c ∷ cs) .answer)) (channelFits v c)
       (λ h rest.
-      by-turned n i v _ (turnOf bank track v c .turned) _ (omega arith) (turn-within v c h)
-      (settle-within n (i + 1) vs cs (omega arith) rest))
+      by-turned n i v _ (turnOf bank track v c .turned) _ (omega arith) (turn-within (start i) v c (s .address) h)
+      (settle-within n (i + 1) vs cs (omega arith) ss rest))
       (λ _ z. absurd (false-true z)) f
 
-  framed-within : (player : Player) (s : Settled) (answer : Answer) → AnswerWithin 4 answer → AnswerWithin 4 (framedBy track player s answer .answer)
+  framed-within : (player : Player) (s : Settled) (answer : Answer) → AnswerWithin start 4 answer →
+      AnswerWithin start 4 (framedBy track player s answer .answer)
   framed-within player s Answer.Events b = tt
   framed-within player s Answer.End b = tt
   framed-within player s Answer.Stopped b = tt
   framed-within player s (Answer.Refused number) b = b
-  framed-within player s (Answer.Fault number i at) b = b
+  framed-within player s (Answer.Fault number i at address) b = b
 
-  track-within : (player : Player) → length (track .voices) ≡ 4 → AnswerWithin 4 (frameOfTrack bank track player .answer)
+  track-within : (player : Player) → Opens bank start track → AnswerWithin start 4 (frameOfTrack bank track player .answer)
   unfolding frameOfTrack
-  track-within player four =
-      by-test (λ (f : Framed). AnswerWithin 4 (f .answer)) (channelsFit (track .voices) (player .channels))
+  track-within player o =
+      by-test (λ (f : Framed). AnswerWithin start 4 (f .answer)) (channelsFit (track .voices) (player .channels))
       (λ f.
-      by-test (λ (f : Framed). AnswerWithin 4 (f .answer)) (eqb (player .stopped) 0)
+      by-test (λ (f : Framed). AnswerWithin start 4 (f .answer)) (eqb (player .stopped) 0)
       (λ _.
       let s = settleFrom bank track 0 (track .voices) (player .channels) in
-      framed-within player s (s .answer) (settle-within 4 0 (track .voices) (player .channels) (omega arith) f)) λ _.
+      framed-within player s (s .answer)
+      (settle-within 4 0 (track .voices) (player .channels) (omega (arith, o .four)) (o .starts) f)) λ _.
       tt) λ _.
       of-record
 
-pub frame-within : (bank : List ℕ) (places : Places) (track : ℕ) (player : Player) → AnswerWithin 4 (frameOf bank places track player .answer)
-unfolding frameOf
-frame-within bank places track player =
-    by-test (λ (f : Framed). AnswerWithin 4 (f .answer)) (eqb (openTrack bank places track .number) 0)
-    (λ e. track-within bank (openTrack bank places track .track) player (opens bank places track (eqb-true _ _ e) .four)) λ e.
-    of-track (unopened bank places track (eqb-false _ _ e))
+module _ (bank : List ℕ) (places : Places) (track : ℕ) (player : Player) where
+  pub frame-within : AnswerWithin (channelStart (headerOf bank places track)) 4 (frameOf bank places track player .answer)
+  unfolding frameOf
+  frame-within =
+      by-test (λ (f : Framed). AnswerWithin (channelStart (headerOf bank places track)) 4 (f .answer))
+      (eqb (openTrack bank places track .number) 0)
+      (λ e.
+      track-within bank (openTrack bank places track .track) (channelStart (headerOf bank places track)) player
+      (opens bank places track (eqb-true _ _ e))) λ e.
+      of-track (unopened bank places track (eqb-false _ _ e))
+
+  -- from any record the address is the channel's start address plus the offset
+  pub frame-address : {number i at address : ℕ} → frameOf bank places track player .answer ≡ Answer.Fault number i at address →
+      address ≡ channelStart (headerOf bank places track) i + at
+  frame-address e = subst (AnswerWithin (channelStart (headerOf bank places track)) 4) e frame-within .1 .1

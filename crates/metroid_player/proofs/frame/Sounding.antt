@@ -95,7 +95,7 @@ module _ (bank : List ℕ) (track : Track) where
     by-stop i v c rest cursor n (Stop.Note b) z (l, _) e =
         record { begins = λ _. (refl, l, refl); goes-on = λ s. absurd (omega arith); begun-then = λ _. z }
     by-stop i v c rest cursor n Stop.End z h e = absurd (not-events _ (omega arith) e)
-    by-stop i v c rest cursor n (Stop.Refused number at) z h e = absurd (not-events _ (omega arith) e)
+    by-stop i v c rest cursor n (Stop.Refused number at address) z h e = absurd (not-events _ (omega arith) e)
 
     first-plays : (i : ℕ) (v : Voice) (c : Channel) (rest : Settled) → v .used ≡ true → FirstPlays i v c rest (turnOf bank track v c)
     unfolding turnOf
@@ -117,7 +117,7 @@ module _ (bank : List ℕ) (track : Track) where
     later-plays i j k u v c t Turned.Off rest p e = p e
     later-plays i j k u v c t Turned.Plays rest p e = p e
     later-plays i j k u v c t Turned.End rest p e = absurd (not-events _ (omega arith) e)
-    later-plays i j k u v c t (Turned.Refused number at) rest p e = absurd (not-events _ (omega arith) e)
+    later-plays i j k u v c t (Turned.Refused number at address) rest p e = absurd (not-events _ (omega arith) e)
 
     settled-plays : (i j : ℕ) (vs : List Voice) (cs : List Channel) (k : ℕ) → j ≡ i + k → k < length cs → voiceAt k vs .used ≡ true →
         settleFrom bank track i vs cs .answer ≡ Answer.Events → PlaysAt j k (voiceAt k vs) (getD cs k freshChannel) (settleFrom bank track i vs cs)
@@ -154,7 +154,7 @@ module _ (bank : List ℕ) (track : Track) where
     framed-plays s Answer.End p e = absurd (not-events _ (omega arith) e)
     framed-plays s Answer.Stopped p e = absurd (not-events _ (omega arith) e)
     framed-plays s (Answer.Refused number) p e = absurd (not-events _ (omega arith) e)
-    framed-plays s (Answer.Fault number i at) p e = absurd (not-events _ (omega arith) e)
+    framed-plays s (Answer.Fault number i at address) p e = absurd (not-events _ (omega arith) e)
 
     pub frame-plays : Plays (frameOfTrack bank track player)
     unfolding frameOfTrack

@@ -39,8 +39,8 @@ module _ (events : List Event) (before : List ℕ) (at : ℕ) (now : List ℕ) (
 pub answer-spelled : (f : Framed) (counts place before : List ℕ) (count : ℕ) (after : List ℕ) →
     Puts (kind-most + group-most (length counts) + group-most (length place) + events-most + 1)
     (refusalAndKind (f .answer) ++ afterBar counts ++ afterBar place ++ each eventText (f .events) ++ newline) before 0 count after →
-    counts ≡ f .counts → length counts ≡ 4 → place ≡ answerPlace (f .answer) → length place ≡ 2 → Spells (answerLine f) before count after
+    counts ≡ f .counts → length counts ≡ 4 → place ≡ answerPlace (f .answer) → length place ≡ 3 → Spells (answerLine f) before count after
 unfolding answerLine
-answer-spelled f counts place before count after p c four a two =
+answer-spelled f counts place before count after p c four a three =
     let q = spelled p (omega arith) in
     rw (← c, ← a) q

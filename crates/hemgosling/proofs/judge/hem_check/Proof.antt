@@ -1,6 +1,5 @@
 use borrow.Author.Needs.{needs}
-use Rattle.metroid_check.proofs.verdict.Place.{verdict-within}
-use Rattle.hemgosling.proofs.judge.Laws.{judges}
+use Rattle.hemgosling.proofs.judge.Laws.{verdict-placed, judges}
 use Rattle.hemgosling.proofs.judge.hem_check.Statement.{statement}
 use Rattle.hemgosling.proofs.judge.hem_check.Tie as tie
 
@@ -10,7 +9,7 @@ hem-check-spec =
     (tie.spec
     (λ c κs. search needs)
     (λ c κs. search needs)
-    (λ c κs. rw (c .before .check .ensures .answer .same) (verdict-within _ _ _))
+    (λ c κs. verdict-placed _ _ _ _ (c .before .check .ensures .answer .same))
     (λ c. search needs)
     (λ c.
     let f = c .before .before .before .before in

@@ -1,6 +1,6 @@
 use borrow.Author.Needs.{needs}
 use mathlib.Core.Path.{refl}
-use Rattle.hemgosling.proofs.judge.Laws.{pass-channel, fault-channel, fault-offset}
+use Rattle.hemgosling.proofs.judge.Laws.{pass-channel, fault-channel}
 use Rattle.hemgosling.proofs.judge.tell.Statement.{statement}
 use Rattle.hemgosling.proofs.judge.tell.Tie as tie
 
@@ -9,13 +9,13 @@ tell-spec =
     tie.close
     (tie.spec
     (λ c. search needs)
-    (λ c. pass-channel _ _ _ (c .before .before .verdict .given .1) (c .before .before .before .before .before .pre))
+    (λ c. pass-channel _ (c .before .before .before .before .before .pre) _ _ (c .before .before .verdict .given .1))
     (λ c. search needs)
     (λ c κs. search needs)
     (λ c. search needs)
     (λ c. search needs)
-    (λ c. fault-channel _ _ _ _ _ (c .before .before .verdict3 .given .1) (c .before .before .before .before .before .pre))
-    (λ c. fault-offset _ _ _ _ _ (c .before .before .verdict3 .given .1) (c .before .before .before .before .before .pre))
+    (λ c. fault-channel _ (c .before .before .before .before .before .pre) _ _ _ _ _ (c .before .before .verdict3 .given .1))
+    (λ c. search needs)
     (λ c. search needs)
     (λ c κs. search needs)
     (λ c. search needs)

@@ -1,5 +1,5 @@
 use borrow.Author.Needs.{needs}
-use Rattle.metroid_player.proofs.frame.Place.{frame-within}
+use Rattle.hemgosling.proofs.play.Laws.{answer-placed}
 use Rattle.hemgosling.proofs.play.frame_into.Statement.{statement}
 use Rattle.hemgosling.proofs.play.frame_into.Tie as tie
 
@@ -10,7 +10,7 @@ frame-into-spec =
     (λ c κs. search needs)
     (λ c κs. search needs)
     (λ c κs. search needs)
-    (λ c κs. rw (c .before .before .before .before .before .frame .ensures .same) (frame-within _ _ _ _))
+    (λ c κs. answer-placed _ _ _ _ _ (c .before .before .before .before .before .frame .ensures .same))
     (λ c. search needs)
     (λ c.
     let f = c .before .before .before .before .before .before .before .before in

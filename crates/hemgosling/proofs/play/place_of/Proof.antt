@@ -1,5 +1,5 @@
 use borrow.Author.Needs.{needs}
-use Rattle.hemgosling.proofs.play.Laws.{fault-channel, fault-offset}
+use Rattle.hemgosling.proofs.play.Laws.{fault-channel}
 use Rattle.hemgosling.proofs.play.place_of.Statement.{statement}
 use Rattle.hemgosling.proofs.play.place_of.Tie as tie
 
@@ -12,8 +12,8 @@ place-of-spec =
     (λ c. search needs)
     (λ c. search needs)
     (λ c. search needs)
-    (λ c. fault-channel _ _ _ _ (c .before .answer .given .1) (c .before .before .before .pre))
-    (λ c. fault-offset _ _ _ _ (c .before .answer .given .1) (c .before .before .before .pre))
+    (λ c. fault-channel _ (c .before .before .before .pre) _ _ _ _ (c .before .answer .given .1))
+    (λ c. search needs)
     (λ c. search needs)
     (λ c. search needs)
     (λ c. search needs)

@@ -1,7 +1,9 @@
 use Prim.Native.Nat.{ℕ, _-_, _≤_}
-use mathlib.Core.Path.{_≡_, refl, _∙_}
+use mathlib.Core.Path.{_≡_, refl, ap, _∙_}
 use native.Mathlib.Omega.{arith}
 use borrow.Author.Needs.{needs}
+use lib.ListN.{length, length-take}
+use Rattle.engine_base.specs.Address.{addressOf}
 use Rattle.metroid_format.specs.Command.{data-limit}
 use Rattle.metroid_format.specs.Channel.{sourceOf, fuelOf, readFrom, readUntil}
 use Rattle.metroid_format.proofs.channel.ReadSteps.{read-turn, read-none, read-cut}
@@ -13,13 +15,13 @@ fuel = fuelOf data-limit
 
 -- the rest, read from here, gives the whole
 abbrev Inv-loop : tie.InvT-loop
-Inv-loop kind bytes lengths window cut cursor₀ count₀ cursor count =
+Inv-loop kind bytes lengths window base cut cursor₀ count₀ cursor count =
     (count ≤ fuel) ×
-    (readFrom (sourceOf kind cut lengths window) (fuel - count) cursor count ≡
-    readUntil data-limit (sourceOf kind cut lengths window) cursor₀)
+    (readFrom (sourceOf kind cut lengths window (addressOf base)) (fuel - count) cursor count ≡
+    readUntil data-limit (sourceOf kind cut lengths window (addressOf base)) cursor₀)
 
 abbrev μ-loop : tie.MeasureT-loop
-μ-loop kind bytes lengths window cut cursor₀ count₀ cursor count = fuel - count
+μ-loop kind bytes lengths window base cut cursor₀ count₀ cursor count = fuel - count
 
 pub read-until-spec : {M : Type 1} → statement M
 unfolding readUntil
@@ -30,7 +32,7 @@ read-until-spec =
     μ-loop
     (λ c κs. search needs)
     (λ c. (omega arith, refl))
-    (λ c κs. search needs)
+    (λ c κs. omega (arith, simp length-take at (ap length (c .before .before .part .ensures))))
     (λ c. search needs)
     (λ c. search needs)
     (λ c. search needs)
@@ -47,7 +49,7 @@ read-until-spec =
     (λ c κs. search needs)
     (λ c.
     let p = c .before .before .before .before .before .before .before in
-    read-cut _ (p .before .before .before .args .bytes .now) _ _ _ _ _ (p .part .ensures)
+    read-cut _ (p .before .before .before .args .bytes .now) _ _ _ _ _ _ (p .part .ensures)
     (c .stopped .ensures ∙
     read-turn _ _ _ fuel _ _ _
     (c .before .before .before .before .step-from .ensures)
@@ -59,7 +61,7 @@ read-until-spec =
     (λ c κs. search needs)
     (λ c.
     let p = c .before .before .before .before .before .before in
-    read-cut _ (p .before .before .before .args .bytes .now) _ _ _ _ _ (p .part .ensures)
+    read-cut _ (p .before .before .before .args .bytes .now) _ _ _ _ _ _ (p .part .ensures)
     (c .stopped2 .ensures ∙
     read-turn _ _ _ fuel _ _ _
     (c .before .before .before .step-from .ensures)
@@ -70,7 +72,7 @@ read-until-spec =
     (λ c κs. search needs)
     (λ c.
     let p = c .before .before .before .before .before .before .before in
-    read-cut _ (p .before .before .before .args .bytes .now) _ _ _ _ _ (p .part .ensures)
+    read-cut _ (p .before .before .before .args .bytes .now) _ _ _ _ _ _ (p .part .ensures)
     (c .stopped3 .ensures ∙
     read-turn _ _ _ fuel _ _ _
     (c .before .before .before .before .step-from .ensures)
@@ -78,7 +80,9 @@ read-until-spec =
     (c .before .before .before .before .before .loop-test .taken)
     (c .before .before .before .before .before .before .loop .inv .1)))
     (λ c κs. search needs)
+    (λ c κs. search needs)
     (λ c.
-    let p = c .before .before .before in
-    read-cut _ (p .before .before .before .args .bytes .now) _ _ _ _ _ (p .part .ensures)
-    (c .stopped4 .ensures ∙ read-none _ _ _ _ _ (omega arith) (c .before .before .loop .inv .1))))
+    let p = c .before .before .before .before in
+    read-cut _ (p .before .before .before .args .bytes .now) _ _ _ _ _ _ (p .part .ensures)
+    (rw (c .before .address-at .ensures) at (c .stopped4 .ensures)
+    ∙ read-none _ _ _ _ _ (omega arith) (c .before .before .before .loop .inv .1))))

@@ -1,5 +1,4 @@
 use borrow.Author.Needs.{needs}
-use mathlib.Core.Path.{sym, _∙_}
 use Rattle.metroid_player.specs.Frame.{frameOfTrack}
 use Rattle.engine_base.proofs.Picks.{picks}
 use Rattle.metroid_player.proofs.frame.frame_of_track.Statement.{statement}
@@ -11,7 +10,7 @@ frame-of-track-spec =
     tie.close
     (tie.spec
     (λ c κs. search needs)
-    (λ c κs. sym (c .before .before .before .channels-fit .ensures) ∙ c .before .before .if1 .taken)
+    (λ c κs. search needs)
     (λ c. search picks depth 12)
     (λ c κs. search needs)
     (λ c. search picks depth 12)

@@ -1,6 +1,6 @@
 use borrow.Author.Needs.{needs}
 use denote.Ref.{now}
-use Rattle.metroid_player.proofs.frame.Laws.{reading-is, stays-within}
+use Rattle.metroid_player.proofs.frame.Laws.{reading-is}
 use Rattle.metroid_player.proofs.frame.read_channel.Statement.{statement}
 use Rattle.metroid_player.proofs.frame.read_channel.Tie as tie
 
@@ -14,7 +14,5 @@ read-channel-spec =
     (λ c κs. search needs)
     (λ c κs. search needs)
     (λ c.
-    let a = c .before .before .before .before .before .before .args in
-    let e = reading-is (now (a .bank)) (a .track) (a .voice) (a .channel) _ (c .before .before .before .part .ensures) _ (c .before .before .part2 .ensures) _ (c .before .cursor-of .ensures) _ (c .read-until .ensures) in
-    let s = stays-within (now (a .bank)) (a .track) (a .voice) (a .channel) _ e (c .before .before .before .before .before .before .pre) in
-    (e, s .0, s .1)))
+    let a = c .before .before .before .before .before .args in
+    reading-is (now (a .bank)) (a .track) (a .voice) (a .channel) _ (c .before .before .before .part .ensures) _ (c .before .before .part2 .ensures) _ (c .before .cursor-of .ensures) _ (c .read-until .ensures)))

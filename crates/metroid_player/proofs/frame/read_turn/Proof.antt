@@ -13,7 +13,7 @@ read-turn-spec =
     (λ c. search needs)
     (λ c. search needs)
     (λ c.
-    turn-begun (c .before .before .before .before .before .before .before .args .channel) _ _ (c .before .before .before .before .before .read-channel .ensures .0)
+    turn-begun (c .before .before .before .before .before .before .before .args .channel) _ _ (c .before .before .before .before .before .read-channel .ensures)
     _ (c .before .before .before .stop .given .1) _ (c .begun-channel .ensures))
-    (λ c. turn-read _ _ _ (c .before .before .read-channel .ensures .0) _ (c .enum-told .given .1))
-    (λ c. turn-read _ _ _ (c .before .before .before .read-channel .ensures .0) _ (c .before .stop2 .given .1)))
+    (λ c. turn-read _ _ _ (c .before .before .read-channel .ensures) _ (c .enum-told .given .1))
+    (λ c. turn-read _ _ _ (c .before .before .before .read-channel .ensures) _ (c .before .stop2 .given .1)))

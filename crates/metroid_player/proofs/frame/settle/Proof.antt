@@ -3,7 +3,7 @@ use native.Mathlib.Omega.{arith}
 use borrow.Author.Needs.{needs}
 use lib.ListN.{length-map}
 use denote.Ref.{now}
-use Rattle.metroid_player.proofs.frame.Laws.{Settling, settling-none, settling-off, settling-plays, settles-events, settles-end, settles-fault, turn-fits}
+use Rattle.metroid_player.proofs.frame.Laws.{Settling, settling-none, settling-off, settling-plays, settles-events, settles-end, settles-fault}
 use Rattle.metroid_player.proofs.frame.settle.Statement.{statement}
 use Rattle.metroid_player.proofs.frame.settle.Tie as tie
 
@@ -24,12 +24,12 @@ settle-spec =
     let o = c .off .ensures in
     let a = c .before .before .before .args in
     settling-none (now (a .bank)) (a .t2) (a .player) (simp length-map at (c .before .before .before .good .1 .0 .1 .1 .1 .1 .1 .1 .1 .1 .0 .1 .0 .1))
-    (simp length-map at (c .before .before .before .good .1 .1 .0 .1 .1 .1 .0 .1 .0 .1)) (c .before .before .before .pre) _ (rw o))
+    (simp length-map at (c .before .before .before .good .1 .1 .0 .1 .1 .1 .0 .1 .0 .1)) _ (rw o))
     (λ c. omega arith)
     (λ c. omega arith)
     (λ c. omega arith)
     (λ c. omega arith)
-    (λ c κs. turn-fits _ _ _ _ _ _ _ (c .before .before .before .loop .inv) (c .before .before .loop-test .taken) _ _)
+    (λ c κs. search needs)
     (λ c. omega arith)
     (λ c. omega arith)
     (λ c. search needs)
@@ -68,5 +68,5 @@ settle-spec =
     (λ c.
     let l = c .before .before .before .before .before .before .before in
     settles-fault _ _ _ _ _ _ _ (l .before .loop .inv) (l .loop-test .taken) _ _ _ (c .before .before .before .before .take-turn .ensures)
-    _ _ (c .before .before .turned .given .1) _ (c .without-events2 .ensures))
+    _ _ _ (c .before .before .turned .given .1) _ (c .without-events2 .ensures))
     (λ c. settles-events _ _ _ _ _ _ _ (c .before .loop .inv) (c .loop-test .left)))

@@ -1,4 +1,5 @@
-use Rattle.metroid_player.proofs.frame.Laws.{next-fits, start-fits, turn-reading, turn-sounding, turn-off}
+use borrow.Author.Needs.{needs}
+use Rattle.metroid_player.proofs.frame.Laws.{turn-reading, turn-sounding, turn-off}
 use Rattle.metroid_player.proofs.frame.take_turn.Statement.{statement}
 use Rattle.metroid_player.proofs.frame.take_turn.Tie as tie
 
@@ -6,7 +7,7 @@ pub take-turn-spec : {M : Type 1} → statement M
 take-turn-spec =
     tie.close
     (tie.spec
-    (λ c κs. (search next-fits depth 8, search start-fits depth 8))
+    (λ c κs. search needs)
     (λ c. search turn-reading depth 8)
     (λ c. search turn-sounding depth 8)
     (λ c. search turn-off depth 8))

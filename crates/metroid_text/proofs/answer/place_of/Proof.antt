@@ -15,4 +15,6 @@ place-of-spec =
     (λ c. search needs)
     (λ c. search needs)
     (λ c. search needs)
+    (λ c. search needs)
+    (λ c. search needs)
     (λ c. rw (c .before .answer .given .1)))

@@ -1,6 +1,5 @@
 use borrow.Author.Needs.{needs}
-use native.Mathlib.Omega.{arith}
-use Rattle.metroid_text.proofs.line.Laws.{puts-within}
+use Rattle.metroid_text.proofs.line.Laws.{puts-then}
 use Rattle.metroid_text.proofs.verdict.put.Statement.{statement}
 use Rattle.metroid_text.proofs.verdict.put.Tie as tie
 
@@ -8,25 +7,8 @@ pub put-spec : {M : Type 1} → statement M
 put-spec =
     tie.close
     (tie.spec
-    (λ c. search needs)
-    (λ c. search needs)
-    (λ c. search needs)
+    (λ c κs. search needs)
     (λ c. search needs)
     (λ c κs. search needs)
     (λ c. search needs)
-    (λ c. search needs)
-    (λ c. search needs)
-    (λ c. search needs)
-    (λ c κs. search needs)
-    (λ c. search needs)
-    (λ c. search needs)
-    (λ c. search needs)
-    (λ c. search needs)
-    (λ c. search needs)
-    (λ c κs. search needs)
-    (λ c. search needs)
-    (λ c. rw (c .before .before .before .before .before .before .before .verdict .given .1) (puts-within (c .before .before .put-sentence .ensures) (omega arith)))
-    (λ c. search needs)
-    (λ c. rw (c .before .before .before .before .before .before .before .verdict2 .given .1) (puts-within (c .before .before .put-sentence2 .ensures) (omega arith)))
-    (λ c. search needs)
-    (λ c. rw (c .before .before .before .before .before .before .before .verdict3 .given .1) (puts-within (c .before .before .put-sentence3 .ensures) (omega arith))))
+    (λ c. puts-then (c .before .before .before .before .before .before .before .put-words .ensures) (c .before .before .append .ensures)))

@@ -10,6 +10,4 @@ put-sentence-spec =
     (λ c κs. search needs)
     (λ c κs. search needs)
     (λ c. search needs)
-    (λ c κs. search needs)
-    (λ c. search needs)
-    (λ c. puts-then (puts-then (c .before .before .before .before .before .before .before .before .before .before .before .append .ensures) (c .before .before .before .before .before .before .before .spaced .ensures)) (c .before .before .append2 .ensures)))
+    (λ c. puts-then (c .before .before .before .before .before .before .append .ensures) (c .before .before .spaced .ensures)))
