@@ -1,11 +1,12 @@
 -- The check: the least stop of the used channels, by frame and then by channel.
-use Prim.Native.Nat.{ℕ, _+_, _<_, _≤_}
+use Prim.Native.Nat.{ℕ, _+_, _<_, _≤_, min}
 use mathlib.Core.List.{List, [], _∷_}
+use mathlib.Core.Path.{_≡_}
 use lib.Dec.{leb, eqb}
 use Rattle.engine_base.specs.Address.{bank-end}
 use Rattle.engine_base.specs.Pick.{pick}
 use Rattle.engine_base.specs.Told.{Told}
-use Rattle.engine_base.specs.Refusal.{no-channel, Unopened, FaultAt}
+use Rattle.engine_base.specs.Refusal.{no-channel, past-data, Unopened, FaultAt}
 use Rattle.metroid_format.specs.Command.{data-limit}
 use Rattle.metroid_format.specs.Header.{openTrack}
 use Rattle.metroid_format.specs.Timeline.{timelineOf}
@@ -56,9 +57,12 @@ toldVerdict (Verdict.Fault number channel at frame address) = record { number = 
 -- Below: only private contracts and laws use these.
 
 -- a refusal is one of 1 to 15; a verdict's place is one of four channels, an offset in its data or at its end, and the address that is
--- the channel's start address plus the offset, at most that behind the bank (proofs/verdict/Place.antt)
+-- the channel's start address plus the offset, at most $c000; for 15 the smaller of start + 256 and $c000 (proofs/verdict/Place.antt)
 abbrev pub VerdictWithin : (ℕ → ℕ) → Verdict → Type 0
 VerdictWithin start (Verdict.Pass frame channel) = channel < 4
 VerdictWithin start (Verdict.Refused number) = Unopened number
 VerdictWithin start (Verdict.Fault number channel at frame address) =
-    (channel < 4) × FaultAt (start channel) data-limit number at address × (address ≤ bank-end)
+    (channel < 4)
+    × FaultAt (start channel) data-limit number at address
+    × (address ≤ bank-end)
+    × (number ≡ past-data → address ≡ min (start channel + data-limit) bank-end)

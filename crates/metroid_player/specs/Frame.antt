@@ -4,6 +4,7 @@ use mathlib.Core.Bool.{true, false}
 use mathlib.Core.List.{List, [], _∷_, _++_}
 use lib.Dec.{eqb}
 use lib.Seq.{sets}
+use Rattle.engine_base.specs.Address.{bank-end}
 use Rattle.engine_base.specs.Pick.{pick}
 use Rattle.engine_base.specs.Told.{Told}
 use Rattle.engine_base.specs.Answer.{answerNumber, answerKind, answerPlace}
@@ -172,11 +173,12 @@ pub data Unplaced : ℕ → Type 0 where
   of-track : {number : ℕ} → Unopened number → Unplaced number
   of-record : Unplaced invalid-record
 
--- a refusal is one of document 01's table; the place of 10 to 15 is one of the first n channels, an offset in its data or at its end,
--- and the address that is the channel's start address plus the offset (proofs/frame/Place.antt: n is 4)
+-- a refusal is one of document 01's table; the place of 10 to 15 is one of the first n channels, an offset within the limit, and the
+-- address that is the channel's start address plus the offset, at most $c0ff (proofs/frame/Place.antt: n is 4)
 abbrev pub AnswerWithin : (ℕ → ℕ) → ℕ → Answer → Type 0
 AnswerWithin start n Answer.Events = Unit {0}
 AnswerWithin start n Answer.End = Unit {0}
 AnswerWithin start n Answer.Stopped = Unit {0}
 AnswerWithin start n (Answer.Refused number) = Unplaced number
-AnswerWithin start n (Answer.Fault number i at address) = (i < n) × FaultAt (start i) data-limit number at address
+AnswerWithin start n (Answer.Fault number i at address) =
+    (i < n) × FaultAt (start i) data-limit number at address × (address < bank-end + data-limit)

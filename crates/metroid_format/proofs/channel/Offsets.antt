@@ -47,7 +47,7 @@ module _ (source : Source) (limit : ℕ) (fits : length (source .bytes) ≤ limi
   by-step (goes-back h e m) p = record { next = p .start; start = p .start }
   by-step (notes b after frames h w l n) p = record { next = omega arith; start = p .start }
   by-step (ends h) p = tt
-  by-step (refuses number at h) p = (fault-further _ _ _ _ (omega (arith, p .next)) h, refl)
+  by-step (refuses number at h w) p = (fault-further _ _ _ _ (omega (arith, p .next)) h, refl)
 
   pub step-within : {cursor : Cursor} {step : Step} → stepOf source cursor ≡ step → Within limit cursor → StepWithin (source .start) limit step
   step-within {cursor} e p = by-step (rw e at (stepped source cursor)) p

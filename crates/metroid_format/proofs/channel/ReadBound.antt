@@ -146,7 +146,7 @@ module _ (source : Source) where
     looped-step (goes-back h e m) p = record { byte = omega (arith, p .byte); after-begin = λ _. p .after-begin m }
     looped-step (notes b after frames h w l n) p = record { byte = p .byte; after-begin = p .after-begin }
     looped-step (ends h) p = tt
-    looped-step (refuses number at h) p = tt
+    looped-step (refuses number at h w) p = tt
 
     looped-after : {cursor : Cursor} {step : Step} → stepOf source cursor ≡ step → Looped extra cursor → LoopedBy extra step
     looped-after {cursor} e p = looped-step (rw e at (stepped source cursor)) p

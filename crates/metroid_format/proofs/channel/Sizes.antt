@@ -19,5 +19,5 @@ module _ (kind : Kind) (bytes : List ℕ) (at : ℕ) (cut : Limited bytes) (r : 
 
   pub place-fits : Fits w16 at → (number place : ℕ) → r ≡ Decoded.Refused number place → Fits w16 place
   place-fits h number place e =
-      let (low, high, near) = refused-near kind bytes at (sym q ∙ e) in
+      let ((low, high, near), wants) = refused-near kind bytes at (sym q ∙ e) in
       record { fits = omega (arith, h .fits) }

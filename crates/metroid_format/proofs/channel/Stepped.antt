@@ -12,7 +12,7 @@ use Rattle.metroid_format.specs.Bank.{lengths-size}
 use Rattle.metroid_format.specs.Command.{isNote, commandAt}
 use Rattle.metroid_format.specs.Channel.{Source, lengthFault, lengthAt, counterOf, playedOf, playedBy, playedAt, addressAt, stepBy, stepOf}
 use Rattle.engine_base.proofs.Picks.{by-test}
-use Rattle.metroid_format.proofs.command.Laws.{Stands, is-end, is-end-loop, is-begin, is-length, is-note, found, refused-near}
+use Rattle.metroid_format.proofs.command.Laws.{Stands, is-end, is-end-loop, is-begin, is-length, is-note, Wants, found, refused-near}
 use Rattle.metroid_format.specs.declared.command.Command.{Command}
 use Rattle.metroid_format.specs.declared.command.Decoded.{Decoded}
 use Rattle.engine_base.specs.declared.time.Frames.{Frames}
@@ -38,7 +38,7 @@ length-above lengths window b e =
 
 -- else it gives 12 or 13
 length-number : (lengths : List ℕ) (window b : ℕ) → (lengthFault lengths window b ≡ 0 → ⊥) →
-    (invalid-command ≤ lengthFault lengths window b) × (lengthFault lengths window b ≤ past-data)
+    (invalid-command ≤ lengthFault lengths window b) × (lengthFault lengths window b < past-data)
 unfolding lengthFault
 length-number lengths window b =
     by-test P (eqb (b / 16) 0x0b)
@@ -49,10 +49,10 @@ length-number lengths window b =
     absurd (z refl)
   where
     P : ℕ → Type 0
-    P m = (m ≡ 0 → ⊥) → (invalid-command ≤ m) × (m ≤ past-data)
+    P m = (m ≡ 0 → ⊥) → (invalid-command ≤ m) × (m < past-data)
 
 -- a note is longer than 0 frames, and a key, rest or preset of the channel; what is not refused stands in the data, and a refusal
--- names the command's offset, or one in the data or at its end, and the address there
+-- names the command's offset, or one in the data or at its end (15 one behind the data), and the address there
 pub data Plays (source : Source) (at : ℕ) (current : Frames) : Played → Type 0 where
   end : at < length (source .bytes) → Plays source at current Played.End
   end-loop : at < length (source .bytes) → getD (source .bytes) at 0 ≡ 0xff → Plays source at current (Played.EndLoop (at + 1))
@@ -62,7 +62,8 @@ pub data Plays (source : Source) (at : ℕ) (current : Frames) : Played → Type
       Plays source at current (Played.Length b (record { count = getD (source .lengths) entry 0 }) (at + 1 + 1))
   lone : (b : ℕ) → at < length (source .bytes) → 0 < current .count → isNote (source .kind) b ≡ true →
       Plays source at current (Played.Note b (at + 1))
-  refused : (number place : ℕ) → FaultWithin (max at (length (source .bytes))) number place → Plays source at current (Played.Refused number place (addressAt (source .start) place))
+  refused : (number place : ℕ) → FaultWithin (max at (length (source .bytes))) number place → Wants (source .bytes) number place →
+      Plays source at current (Played.Refused number place (addressAt (source .start) place))
 
 pub plays : (source : Source) (at : ℕ) (current : Frames) → Plays source at current (playedAt source at current)
 unfolding playedAt
@@ -70,7 +71,7 @@ plays source at current =
     by-test (Plays source at current) (eqb (lengthFault (source .lengths) (source .window) b) 0)
     (λ z. from (commandAt (source .kind) (source .bytes) at) refl (eqb-true _ _ z)) λ z.
     let (low, high) = length-number _ _ b (eqb-false _ _ z) in
-    refused _ at (low, high, omega arith)
+    refused _ at (low, omega arith, omega arith) (λ z. absurd (omega arith))
   where
     b : ℕ
     b = getD (source .bytes) at 0
@@ -84,14 +85,16 @@ plays source at current =
         let r : b % 16 ≡ l = omega arith in
         rw (← r) (long note _ h (length-above (source .lengths) (source .window) b (omega arith) z) y)
     stand (is-note note p s y h e) z =
-        by-test (Plays source at current) (eqb (current .count) 0) (λ _. refused _ at (omega arith, omega arith, omega arith)) λ t.
+        by-test (Plays source at current) (eqb (current .count) 0) (λ _. refused _ at (omega arith, omega arith, omega arith) (λ z. absurd (omega arith))) λ t.
         let above : current .count ≡ 0 → ⊥ = eqb-false _ _ t in
         lone note h (omega arith) y
 
     from : (d : Decoded) → commandAt (source .kind) (source .bytes) at ≡ d → lengthFault (source .lengths) (source .window) b ≡ 0 →
         Plays source at current (playedBy (source .start) (playedOf (source .lengths) (source .window) (source .start) at current) d)
     from (Decoded.Found c next) e z = stand (found (source .kind) (source .bytes) at e) z
-    from (Decoded.Refused number place) e z = refused number place (refused-near (source .kind) (source .bytes) at e)
+    from (Decoded.Refused number place) e z =
+        let (near, wants) = refused-near (source .kind) (source .bytes) at e in
+        refused number place near wants
 
 pub data Stepped (source : Source) (cursor : Cursor) : Step → Type 0 where
   begins : (counter : ℕ) → cursor .next < length (source .bytes) → (getD (source .bytes) (cursor .next) 0 ≡ 0xff → ⊥) → counter ≤ 255 →
@@ -108,7 +111,7 @@ pub data Stepped (source : Source) (cursor : Cursor) : Step → Type 0 where
       Stepped source cursor
       (Step.Note b (record { next = after; «loop_start» = cursor .«loop_start»; counter = cursor .counter; length = frames }))
   ends : cursor .next < length (source .bytes) → Stepped source cursor Step.End
-  refuses : (number at : ℕ) → FaultWithin (max (cursor .next) (length (source .bytes))) number at →
+  refuses : (number at : ℕ) → FaultWithin (max (cursor .next) (length (source .bytes))) number at → Wants (source .bytes) number at →
       Stepped source cursor (Step.Refused number at (addressAt (source .start) at))
 
 pub stepped : (source : Source) (cursor : Cursor) → Stepped source cursor (stepOf source cursor)
@@ -125,4 +128,4 @@ stepped source cursor = from _ (plays source (cursor .next) (cursor .length))
     from _ (begin-loop counter h e m) = begins counter h e m
     from _ (long b entry h l n) = notes b (cursor .next + 1 + 1) _ (omega arith) (omega arith) l n
     from _ (lone b h l n) = notes b (cursor .next + 1) (cursor .length) (omega arith) (omega arith) l n
-    from _ (refused number place h) = refuses number place h
+    from _ (refused number place h w) = refuses number place h w

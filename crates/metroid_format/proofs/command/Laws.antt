@@ -11,7 +11,7 @@ use lib.Dec.{leb, eqb}
 use lib.ListN.{length, getD, take, drop}
 use lib.Seq.{drop-cons}
 use Rattle.engine_base.specs.Bytes.{wordAt}
-use Rattle.engine_base.specs.Refusal.{FaultWithin}
+use Rattle.engine_base.specs.Refusal.{past-data, FaultWithin}
 use Rattle.metroid_format.specs.Command.{commandAt, commandOf, noteAfter, isKey, isPreset, isNote, wordOf, isEnd}
 use Rattle.metroid_format.specs.declared.command.Kind.{Kind}
 use Rattle.metroid_format.specs.declared.command.Kind.the-variants.{Melodic, Noise}
@@ -32,10 +32,14 @@ pub data Stands (kind : Kind) (bytes : List ℕ) (at : ℕ) : Command → ℕ �
 pub fault-further : (limit more number at : ℕ) → limit ≤ more → FaultWithin limit number at → FaultWithin more number at
 fault-further limit more number at h (low, high, w) = (low, high, omega arith)
 
+-- 15 wants a byte behind the data
+abbrev pub Wants : List ℕ → ℕ → ℕ → Type 0
+Wants bytes number at = number ≡ past-data → length bytes ≤ at
+
 -- and a refusal names the offset, or one in the data or at its end
 abbrev Right : Kind → List ℕ → ℕ → Decoded → Type 0
 Right kind bytes at (Found c next) = Stands kind bytes at c next
-Right kind bytes at (Refused number offset) = FaultWithin (max at (length bytes)) number offset
+Right kind bytes at (Refused number offset) = FaultWithin (max at (length bytes)) number offset × Wants bytes number offset
 
 pub note-small : (kind : Kind) (b : ℕ) → isNote kind b ≡ true → b < 0x80
 unfolding isKey isPreset
@@ -95,15 +99,15 @@ module _ (kind : Kind) (bytes : List ℕ) (at : ℕ) where
   after-right : at < length bytes → getD bytes at 0 / 16 ≡ 0x0b → Right kind bytes at (noteAfter kind bytes (at + 1) (getD bytes at 0 % 16))
   unfolding noteAfter
   after-right h q =
-      by-test (Right kind bytes at) (leb (length bytes) (at + 1)) (λ _. (omega arith, omega arith, omega arith))
+      by-test (Right kind bytes at) (leb (length bytes) (at + 1)) (λ n. ((omega arith, omega arith, omega arith), λ _. leb-true _ _ n))
       (λ n. by-test (Right kind bytes at) (isNote kind (getD bytes (at + 1) 0))
       (λ y. is-length (getD bytes at 0 % 16) (getD bytes (at + 1) 0) (omega arith) y (leb-false _ _ n) (omega arith) refl)
-      (λ _. (omega arith, omega arith, omega arith)))
+      (λ _. ((omega arith, omega arith, omega arith), λ z. absurd (omega arith))))
 
   command-right : Right kind bytes at (commandAt kind bytes at)
   unfolding commandAt commandOf
   command-right =
-      by-test (Right kind bytes at) (leb (length bytes) at) (λ _. (omega arith, omega arith, omega arith))
+      by-test (Right kind bytes at) (leb (length bytes) at) (λ n. ((omega arith, omega arith, omega arith), λ _. leb-true _ _ n))
       (λ n. let h = leb-false (length bytes) at n in
       by-test (Right kind bytes at) (eqb (getD bytes at 0) 0x00) (λ e. is-end h (eqb-true _ _ e))
       (λ e0. let z = eqb-false (getD bytes at 0) 0x00 e0 in
@@ -112,16 +116,16 @@ module _ (kind : Kind) (bytes : List ℕ) (at : ℕ) where
       by-test (Right kind bytes at) (eqb (getD bytes at 0 / 64) 3)
       (λ e. let q = eqb-true (getD bytes at 0 / 64) 3 e in is-begin (getD bytes at 0 % 64) (omega arith) h (omega arith))
       (λ e2. by-test (Right kind bytes at) (eqb (getD bytes at 0 / 16) 0x0b) (λ e. after-right h (eqb-true _ _ e))
-      (λ e3. by-test (Right kind bytes at) (leb 0x80 (getD bytes at 0)) (λ _. (omega arith, omega arith, omega arith))
+      (λ e3. by-test (Right kind bytes at) (leb 0x80 (getD bytes at 0)) (λ _. ((omega arith, omega arith, omega arith), λ z. absurd (omega arith)))
       (λ e4. let s = leb-false 0x80 (getD bytes at 0) e4 in
       by-test (Right kind bytes at) (isNote kind (getD bytes at 0))
       (λ y. is-note (getD bytes at 0) (omega arith) s y h refl)
-      (λ _. (omega arith, omega arith, omega arith))))))))
+      (λ _. ((omega arith, omega arith, omega arith), λ z. absurd (omega arith)))))))))
 
   pub found : {c : Command} {next : ℕ} → commandAt kind bytes at ≡ Found c next → Stands kind bytes at c next
   found e = subst (Right kind bytes at) e command-right
 
-  pub refused-near : {number offset : ℕ} → commandAt kind bytes at ≡ Refused number offset → FaultWithin (max at (length bytes)) number offset
+  pub refused-near : {number offset : ℕ} → commandAt kind bytes at ≡ Refused number offset → FaultWithin (max at (length bytes)) number offset × Wants bytes number offset
   refused-near e = subst (Right kind bytes at) e command-right
 
   pub stands : {c : Command} {next : ℕ} → Stands kind bytes at c next → commandAt kind bytes at ≡ Found c next

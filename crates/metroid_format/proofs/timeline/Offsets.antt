@@ -5,7 +5,10 @@ use lib.ListN.{length}
 use Rattle.engine_base.specs.Refusal.{FaultAt}
 use Rattle.metroid_format.specs.Channel.{Source, freshCursor}
 use Rattle.metroid_format.specs.Timeline.{Walk}
+use Rattle.metroid_format.proofs.command.Laws.{Wants}
 use Rattle.metroid_format.proofs.channel.Offsets.{Within, step-within}
+use Rattle.metroid_format.proofs.channel.Stepped.{Stepped, refuses, stepped}
+use Rattle.metroid_format.specs.declared.channel.Step.{Step}
 use Rattle.metroid_format.specs.declared.channel.Cursor.{Cursor}
 use Rattle.metroid_format.specs.declared.timeline.Finish.{Finish}
 
@@ -23,3 +26,14 @@ module _ (source : Source) (limit : ℕ) (fits : length (source .bytes) ≤ limi
   -- a channel from its start
   pub track-within : {frames : ℕ} {finish : Finish} → Walk source freshCursor frames finish → FinishWithin (source .start) limit finish
   track-within w = walk-within w (record { next = omega arith; start = omega arith })
+
+-- 15 wants a byte behind the data
+module _ {source : Source} where
+  step-wants : {cursor : Cursor} {number at address : ℕ} → Stepped source cursor (Step.Refused number at address) → Wants (source .bytes) number at
+  step-wants (refuses number at h w) = w
+
+  pub walk-wants : {cursor : Cursor} {frames number at address : ℕ} → Walk source cursor frames (Finish.Refused number at address) →
+      Wants (source .bytes) number at
+  walk-wants (Walk.again e w) = walk-wants w
+  walk-wants (Walk.note e w) = walk-wants w
+  walk-wants (Walk.refused {cursor} e) = step-wants (rw e at (stepped source cursor))

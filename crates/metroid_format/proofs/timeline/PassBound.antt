@@ -61,7 +61,7 @@ module _ (source : Source) (table : (i : ℕ) → getD (source .lengths) i 0 ≤
       let byte : getD (source .lengths) entry 0 ≤ 255 = table entry in
       omega (arith, more (255 * pass .lead + (pass .rest + getD (source .lengths) entry 0)) (omega arith))
   bounded-by _ (Plays.lone note h l n) = lone (eqb (pass .rest) 0) h
-  bounded-by _ (Plays.refused number place h) = tt
+  bounded-by _ (Plays.refused number place h w) = tt
 
   pub bounded : BoundedBy source (passedOf source pass)
   unfolding passedOf

@@ -257,7 +257,7 @@ module _ (source : Source) (origin : Cursor) where
       },
     )
     passes _ e (Plays.lone b h l n) = lone b h l e (eqb (pass .rest) 0) refl
-    passes _ e (Plays.refused number place h) = stops (refused (step-at source here _ e))
+    passes _ e (Plays.refused number place h w) = stops (refused (step-at source here _ e))
 
   -- a command passes a byte, so that the fuel is never used up
   pass-walks : (fuel start : ℕ) (pass : Pass) → length (source .bytes) - pass .next < fuel → Passing source origin start pass →

@@ -55,7 +55,7 @@ module _ (kind : Kind) (bytes : List ℕ) where
     short-by : (d : Decoded) → commandAt kind bytes at ≡ d → Short (suc left) (straightBy at go d)
     short-by (Found c next) e = short-after (isEnd c) (wordOf c) next (next-within (found kind bytes at e))
     short-by (Refused number offset) e =
-        let near = refused-near kind bytes at e in
+        let near = refused-near kind bytes at e .0 in
         record { words-few = omega arith; finish-near = (subst Shown e (shown kind bytes at), omega arith) }
 
   short : (left at : ℕ) → at ≤ length bytes → Short left (straightFrom kind bytes left at)
