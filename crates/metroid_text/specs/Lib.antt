@@ -1,5 +1,5 @@
 pub mod Decimal
-pub mod Line
 pub mod Hex
+pub mod Line
 pub mod Verdict
 pub mod Answer

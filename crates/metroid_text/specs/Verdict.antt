@@ -5,7 +5,7 @@ use lib.ListN.{length}
 use Rattle.metroid_check.specs.declared.verdict.Verdict.{Verdict}
 use Rattle.metroid_text.specs.Decimal.{decimal}
 use Rattle.metroid_text.specs.Line.{space, newline, spaced, spaced-most}
-use Rattle.metroid_text.specs.Hex.{afterSpace, spaced-most as address-most}
+use Rattle.metroid_text.specs.Hex.{hex, digits-most}
 
 -- `pass`
 abbrev pub passWord : List ℕ
@@ -24,7 +24,7 @@ abbrev pub verdictWords : Verdict → List ℕ
 verdictWords (Verdict.Pass frame channel) = sentence passWord (frame ∷ channel ∷ [])
 verdictWords (Verdict.Refused number) = sentence refuseWord (number ∷ [])
 verdictWords (Verdict.Fault number channel at frame address) =
-    sentence refuseWord (number ∷ channel ∷ at ∷ frame ∷ []) ++ afterSpace address
+    sentence refuseWord (number ∷ channel ∷ at ∷ frame ∷ []) ++ space ++ hex address
 
 abbrev pub verdictText : Verdict → List ℕ
 verdictText verdict = verdictWords verdict ++ newline
@@ -39,7 +39,7 @@ abbrev pub sentence-most : List ℕ → ℕ → ℕ
 sentence-most word n = length word + spaced-most * n
 
 abbrev pub words-most : ℕ
-words-most = sentence-most refuseWord 4 + address-most
+words-most = sentence-most refuseWord 4 + 1 + digits-most
 
 abbrev pub text-most : ℕ
 text-most = words-most + 1

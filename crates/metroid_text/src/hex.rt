@@ -1,16 +1,15 @@
 // Numbers in hex.
 use crate::line;
 ghost use Prim.Native.Nat.{_+_, _<_, _^_};
-ghost use Rattle.metroid_text.specs.Hex.{afterSpace, spaced-most};
+ghost use Rattle.metroid_text.specs.Hex.{hex, digits-most};
 ghost use Rattle.metroid_text.specs.Line.{Puts};
 
-// Writes a space and the last four digits of a number from an index on; the index behind them.
-pub(crate) fn put_spaced(number: u32, out: &mut [u8], at: usize) -> usize
-    requires { ⌜ at + spaced-most < 2 ^ 64 ⌝ }
-    ensures { λ r. ⌜ Puts spaced-most (afterSpace number) (now (out .entry)) at r (now (out .exit)) ⌝ }
+// Writes the last four digits of a number from an index on; the index behind them.
+pub(crate) fn put(number: u32, out: &mut [u8], at: usize) -> usize
+    requires { ⌜ at + digits-most < 2 ^ 64 ⌝ }
+    ensures { λ r. ⌜ Puts digits-most (hex number) (now (out .entry)) at r (now (out .exit)) ⌝ }
 {
-    let next = line::append(b" ", out, at);
     let mut digits = [0u8; 16];
     let count = io::hex((number % 65536) as u64, 4, &mut digits);
-    line::append(&digits[..count], out, next)
+    line::append(&digits[..count], out, at)
 }

@@ -33,7 +33,8 @@ fn put_words(verdict: Verdict, out: &mut [u8], at: usize) -> usize
                 out,
                 at,
             );
-            hex::put_spaced(address, out, told)
+            let next = line::append(b" ", out, told);
+            hex::put(address, out, next)
         }
     }
 }

@@ -9,7 +9,7 @@ use borrow.Author.Tests.{leb-true, leb-false}
 use lib.Dec.{leb}
 use lib.ListN.{length, take}
 use Rattle.io.specs.Digits.{digits, Fewest}
-use Rattle.metroid_text.specs.Hex.{hex}
+use Rattle.metroid_text.specs.Hex.{hex, digits-most}
 use Rattle.metroid_text.specs.Line.{Puts}
 
 low-digits : (n : ℕ) → digits 16 4 (n % 65536) ≡ hex n
@@ -34,8 +34,8 @@ module _ (n k : ℕ) (bytes : List ℕ) (f : Fewest 16 4 (n % 65536) k) (e : tak
   taken : take k bytes ≡ hex n
   taken = e ∙ rw four (low-digits n)
 
-  pub hex-room : (at : ℕ) → at + 4 < 2 ^ 64 → at + length (take k bytes) < 2 ^ 64
+  pub hex-room : (at : ℕ) → at + digits-most < 2 ^ 64 → at + length (take k bytes) < 2 ^ 64
   hex-room at r = rw taken r
 
-  pub hex-put : {m at next : ℕ} {before after : List ℕ} → Puts m (take k bytes) before at next after → Puts 4 (hex n) before at next after
+  pub hex-put : {m at next : ℕ} {before after : List ℕ} → Puts m (take k bytes) before at next after → Puts digits-most (hex n) before at next after
   hex-put p = record { size = rw taken at (p .size); within = omega arith; buffer = rw taken at (p .buffer) }

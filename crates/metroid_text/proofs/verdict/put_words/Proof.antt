@@ -25,10 +25,15 @@ put-words-spec =
     (λ c. search needs)
     (λ c. search needs)
     (λ c κs. search needs)
+    (λ c. search needs)
+    (λ c κs. search needs)
     (λ c κs. search needs)
     (λ c. search needs)
     (λ c. rw (c .before .before .before .before .before .before .before .verdict .given .1) (puts-within (c .before .before .put-sentence .ensures) (omega arith)))
     (λ c. search needs)
     (λ c. rw (c .before .before .before .before .before .before .before .verdict2 .given .1) (puts-within (c .before .before .put-sentence2 .ensures) (omega arith)))
     (λ c. search needs)
-    (λ c. rw (c .before .before .before .before .before .before .before .before .before .before .before .verdict3 .given .1) (puts-then (c .before .before .before .before .before .before .put-sentence3 .ensures) (c .before .before .put-spaced .ensures))))
+    (λ c.
+    let s = c .before .before .before .before .before .before in
+    let f = s .before .before .before .before .before in
+    rw (f .before .before .before .before .before .verdict3 .given .1) (puts-then (puts-then (f .put-sentence3 .ensures) (s .append .ensures)) (c .before .before .put .ensures))))
