@@ -1,5 +1,5 @@
 -- Where a command ends or is refused, in data cut at the limit, is a word of 16 bits.
-use Prim.Native.Nat.{ℕ, _<_}
+use Prim.Native.Nat.{ℕ}
 use mathlib.Core.List.{List}
 use mathlib.Core.Path.{_≡_, sym, _∙_}
 use native.Mathlib.Omega.{arith}
