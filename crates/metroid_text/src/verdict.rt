@@ -33,8 +33,8 @@ fn put_words(verdict: Verdict, out: &mut [u8], at: usize) -> usize
                 out,
                 at,
             );
-            let next = line::append(b" ", out, told);
-            hex::put(address, out, next)
+            let column = line::append(b" ", out, told);
+            hex::put(address, out, column)
         }
     }
 }
