@@ -5,7 +5,7 @@ use lib.ListN.{length}
 use Rattle.metroid_check.specs.declared.verdict.Verdict.{Verdict}
 use Rattle.metroid_text.specs.Decimal.{decimal}
 use Rattle.metroid_text.specs.Line.{space, newline, spaced, spaced-most}
-use Rattle.metroid_text.specs.Hex.{hex, digits-most}
+use Rattle.metroid_text.specs.Hex.{hex-digits, hex}
 
 -- `pass`
 abbrev pub passWord : List ℕ
@@ -39,7 +39,7 @@ abbrev pub sentence-most : List ℕ → ℕ → ℕ
 sentence-most word n = length word + spaced-most * n
 
 abbrev pub words-most : ℕ
-words-most = sentence-most refuseWord 4 + 1 + digits-most
+words-most = sentence-most refuseWord 4 + 1 + hex-digits
 
 abbrev pub text-most : ℕ
 text-most = words-most + 1
