@@ -11,38 +11,57 @@ enum { MEASURES = 31, FRAMES = 600, SHORTEST_NS = 2000000 };
 /* Kept so that no call is left out by the compiler. */
 static volatile uint32_t sink;
 
-/* One piece of work, done by the library or by the independent player. */
-typedef void work(const setup *s);
+/* A track, and the records that its starts have made. */
+typedef struct {
+    const setup *s;
+    hem_player player;
+    ref_player reference;
+} started;
 
-static void check_library(const setup *s)
+/* One piece of work, done by the library or by the independent player. */
+typedef void work(const started *t);
+
+static void check_library(const started *t)
 {
     uint32_t verdict[HEM_VERDICT_WORDS];
-    sink = hem_check(SETUP(s), verdict, HEM_VERDICT_WORDS);
+    sink = hem_check(SETUP(t->s), verdict, HEM_VERDICT_WORDS);
 }
 
-static void check_reference(const setup *s)
+static void check_reference(const started *t)
 {
-    sink = ref_check_by_channels(s->bank, s->bank_len, &s->places, s->track).number;
+    sink = ref_check_by_channels(t->s->bank, t->s->bank_len, &t->s->places, t->s->track).number;
 }
 
-static void frames_library(const setup *s)
+static void start_library(const started *t)
 {
     hem_player player;
+    sink = hem_start(&player, SETUP(t->s));
+}
+
+static void start_reference(const started *t)
+{
+    ref_player player;
+    sink = ref_start(&player, t->s->bank, t->s->bank_len, &t->s->places, t->s->track);
+}
+
+static void frames_library(const started *t)
+{
+    hem_player player = t->player;
     uint32_t answer[HEM_ANSWER_WORDS];
-    uint32_t number = hem_start(&player, SETUP(s));
+    uint32_t number = HEM_OK;
     for (int i = 0; i < FRAMES && number == HEM_OK; i++) {
-        number = hem_frame(&player, SETUP(s), answer, HEM_ANSWER_WORDS);
+        number = hem_frame(&player, SETUP(t->s), answer, HEM_ANSWER_WORDS);
         sink = answer[HEM_ANSWER_PARTS];
     }
 }
 
-static void frames_reference(const setup *s)
+static void frames_reference(const started *t)
 {
-    ref_player player;
+    ref_player player = t->reference;
     uint32_t answer[REF_ANSWER_WORDS];
-    uint32_t number = ref_start(&player, s->bank, s->bank_len, &s->places, s->track);
+    uint32_t number = 0;
     for (int i = 0; i < FRAMES && number == 0; i++) {
-        number = ref_frame(&player, s->bank, s->bank_len, &s->places, s->track, answer);
+        number = ref_frame(&player, t->s->bank, t->s->bank_len, &t->s->places, t->s->track, answer);
         sink = answer[REF_ANSWER_PARTS];
     }
 }
@@ -55,19 +74,19 @@ static double now_ns(void)
     return 1e9 * (double)t.tv_sec + (double)t.tv_nsec;
 }
 
-static double timed(work *w, const setup *s, unsigned long times)
+static double timed(work *w, const started *t, unsigned long times)
 {
     double begun = now_ns();
     for (unsigned long i = 0; i < times; i++)
-        w(s);
+        w(t);
     return (now_ns() - begun) / (double)times;
 }
 
 /* How often the work must be done for a measure that the clock resolves. */
-static unsigned long times_for(work *w, const setup *s)
+static unsigned long times_for(work *w, const started *t)
 {
     unsigned long times = 1;
-    while (timed(w, s, times) * (double)times < SHORTEST_NS)
+    while (timed(w, t, times) * (double)times < SHORTEST_NS)
         times *= 2;
     return times;
 }
@@ -85,13 +104,14 @@ static double median(double values[MEASURES])
 }
 
 /* A target of 0 is none. */
-static void compare(const char *what, const char *track, work *library, work *reference, const setup *s, double target)
+static void compare(const char *what, const char *track, work *library, work *reference, const started *t,
+                    double target)
 {
     double ours[MEASURES], theirs[MEASURES], ratios[MEASURES];
-    unsigned long times = times_for(library, s), reference_times = times_for(reference, s);
+    unsigned long times = times_for(library, t), reference_times = times_for(reference, t);
     for (int i = 0; i < MEASURES; i++) {
-        ours[i] = timed(library, s, times);
-        theirs[i] = timed(reference, s, reference_times);
+        ours[i] = timed(library, t, times);
+        theirs[i] = timed(reference, t, reference_times);
         ratios[i] = ours[i] / theirs[i];
     }
     double ratio = median(ratios);
@@ -101,29 +121,34 @@ static void compare(const char *what, const char *track, work *library, work *re
     printf("\n");
 }
 
-static void compare_both(const char *track, const setup *s, double check_target)
+/* The target is that of the check and of the start, which both judge the channels. */
+static void compare_all(const char *track, const setup *s, double target)
 {
-    compare("check", track, check_library, check_reference, s, check_target);
-    compare("frames", track, frames_library, frames_reference, s, 1.0);
+    started t = { .s = s };
+    hem_start(&t.player, SETUP(s));
+    ref_start(&t.reference, s->bank, s->bank_len, &s->places, s->track);
+    compare("check", track, check_library, check_reference, &t, target);
+    compare("start", track, start_library, start_reference, &t, target);
+    compare("frames", track, frames_library, frames_reference, &t, 1.0);
 }
 
 int main(void)
 {
     static uint8_t bank[HEM_BANK_SIZE];
     setup s;
-    printf("                                 library      reference     ratio   (median of %d; frames: start and %d)\n",
-           MEASURES, FRAMES);
+    printf("                                 library      reference     ratio   (median of %d; frames: %d)\n", MEASURES,
+           FRAMES);
     plain_setup(&s, bank);
     typical_track(&s);
-    compare_both("typical track", &s, 1.0);
+    compare_all("typical track", &s, 1.0);
     plain_setup(&s, bank);
     latest_end(&s, HEM_SQUARE_1);
-    compare_both("latest end", &s, 0.05);
+    compare_all("latest end", &s, 0.05);
     for (int i = HEM_SQUARE_2; i < HEM_CHANNELS; i++)
         latest_end(&s, i);
-    compare_both("latest end, four", &s, 0);
+    compare_all("latest end, four", &s, 0);
     plain_setup(&s, bank);
     most_commands(&s, HEM_SQUARE_1);
-    compare_both("128 times C0 FF", &s, 0);
+    compare_all("128 times C0 FF", &s, 0);
     return 0;
 }

@@ -25,8 +25,9 @@ extern "C" {
      in the same call: not the bank, not another buffer.
    - During a call nobody else reads or writes what the call writes, or writes what it reads (the bank, the input of the
      words calls). Any number of calls with records and buffers of their own may run at the same time on one bank.
-   - For a verdict of hem_check to hold of playing: bank bytes and all arguments from bank to default2 are the same in
-     the check, in hem_start and in every hem_frame, and only hem_start and hem_frame write the record.
+   - For a verdict of hem_check and the frames left to hold of playing: bank bytes and all arguments from bank to
+     default2 are the same in the check, in hem_start and in every hem_frame, and only hem_start and hem_frame write the
+     record.
 
    Nothing else is asked. Every value of a size_t or uint32_t argument is tested, and none is cut to a smaller one. But
    default1 and default2 are bytes: C itself cuts a larger number to its low 8 bits, and no call can see that. */
@@ -99,10 +100,10 @@ typedef enum {
 
 /* The player's record
 
-   34 bytes that hem_start fills and hem_frame steps. You may keep it, copy it and save it. hem_frame refuses one that,
-   in a channel that the track uses, has an offset above 256, or frames left above 0 with a length below them or with a
-   sounding byte that is no key, rest or preset of that channel; from any other record it plays on. The byte between
-   stopped and channels has no meaning. */
+   44 bytes that hem_start fills and hem_frame steps. You may keep it, copy it and save it. hem_frame refuses one whose
+   frames_left or pass_length is above 16,777,216, and one that, in a channel that the track uses, has an offset above
+   256, or left above 0 with a length below it or with a sounding byte that is no key, rest or preset of that channel;
+   from any other record it plays on. The byte before channels and the two after it have no meaning. */
 typedef struct {
     uint16_t next;       /* offset of the next command in the channel's data */
     uint16_t loop_start; /* offset after the last begin-loop command */
@@ -115,12 +116,14 @@ typedef struct {
 typedef struct {
     uint8_t stopped; /* any value but 0: the track has ended and does not restart */
     hem_channel channels[HEM_CHANNELS];
+    uint32_t frames_left; /* frames until the end that hem_check tells, or until the fault */
+    uint32_t pass_length; /* what frames_left is at the start, and again after a restart */
 } hem_player;
 
 #ifdef __cplusplus
-static_assert(sizeof(hem_channel) == 8 && sizeof(hem_player) == 34, "the library's records have these sizes");
+static_assert(sizeof(hem_channel) == 8 && sizeof(hem_player) == 44, "the library's records have these sizes");
 #else
-_Static_assert(sizeof(hem_channel) == 8 && sizeof(hem_player) == 34, "the library's records have these sizes");
+_Static_assert(sizeof(hem_channel) == 8 && sizeof(hem_player) == 44, "the library's records have these sizes");
 #endif
 
 /* The verdict: what hem_check writes. Frames count from 0. */
@@ -135,14 +138,15 @@ _Static_assert(sizeof(hem_channel) == 8 && sizeof(hem_player) == 34, "the librar
 #define HEM_FAULT_ADDRESS 3 /* at most 0xc000, where the bank ends */
 
 /* The answer: what hem_frame writes. Words that have nothing to tell are 0. */
-#define HEM_ANSWER_WORDS 28
+#define HEM_ANSWER_WORDS 29
 #define HEM_ANSWER_KIND 0    /* HEM_EVENTS, HEM_END, HEM_STOPPED or HEM_REFUSED */
 #define HEM_ANSWER_COUNTS 1  /* four words, one a channel: commands it read in this frame, an end counted, a refused
                                 command not */
 #define HEM_ANSWER_CHANNEL 5 /* of a refusal 10 to 15: the channel, */
 #define HEM_ANSWER_OFFSET 6  /* the byte's offset in its data */
 #define HEM_ANSWER_ADDRESS 7 /* and its address, at most 0xc0ff: a record may name an offset behind the data */
-#define HEM_ANSWER_PARTS 8   /* with HEM_EVENTS: five words a channel */
+#define HEM_ANSWER_LEFT 8    /* frames_left of the record given, whatever the kind */
+#define HEM_ANSWER_PARTS 9   /* with HEM_EVENTS: five words a channel */
 enum { HEM_EVENTS = 0, HEM_END = 1, HEM_STOPPED = 2, HEM_REFUSED = 3 };
 
 /* A channel's part of the answer: its words are answer[HEM_ANSWER_PART(channel) + one of these]. */
@@ -172,8 +176,11 @@ uint32_t hem_check(const uint8_t *bank, size_t bank_len, uint32_t header_offsets
                    uint32_t track_count, uint32_t track, uint8_t default1, uint8_t default2, uint32_t *verdict,
                    size_t verdict_len);
 
-/* Makes a fresh record, all fields 0, whatever it held. Returns 0 or the refusal, 1 to 9; the record is fresh either
-   way. The channels' data is not looked at: that is the check's work. */
+/* Makes a fresh record, whatever it held. Returns 0 or the refusal, 1 to 9.
+
+   If it returns 0, frames_left and pass_length are both the frame that hem_check tells: that of the track's first end
+   or, if a fault (10 to 15) is met before it, that of the fault. All else of the record is 0, and after a refusal all
+   of it. The cost grows with the bytes of the channels, not with the frames. */
 uint32_t hem_start(hem_player *player, const uint8_t *bank, size_t bank_len, uint32_t header_offsets,
                    uint32_t header_block, uint32_t note_lengths, uint32_t key_periods, uint32_t noise_presets,
                    uint32_t envelope_addresses, uint32_t track_count, uint32_t track, uint8_t default1,
@@ -182,13 +189,19 @@ uint32_t hem_start(hem_player *player, const uint8_t *bank, size_t bank_len, uin
 /* Plays one frame and steps the record. Tests 1 to 9, then 16, then whether the record is stopped, then plays.
 
    Returns 0 with one of
-     HEM_EVENTS   what each channel sounds in this frame; the record is stepped
-     HEM_END      the track ends here and no channel sounds: the record is fresh, so that the next frame is the track's
-                  first one again, and marked as stopped if the header says not to restart. The channel that met the
-                  end is the last with a count above 0; channels after it were not read
+     HEM_EVENTS   what each channel sounds in this frame; the record is stepped: frames_left is one less, or stays 0
+     HEM_END      the track ends here and no channel sounds. If the header says to restart, frames_left and pass_length
+                  are both the pass_length given and all else of the record is 0, so that the next frame is the track's
+                  first one again; else it is marked as stopped and all else is 0. The channel that met the end is the
+                  last with a count above 0; channels after it were not read
      HEM_STOPPED  the record is marked as stopped, and stays
    or the refusal's number, 1 to 16, with HEM_REFUSED: the record stays, so asking again refuses again. For 10 to 15
    channel, offset and address are told, and the commands read before the fault are counted.
+
+   Every answer tells the frames_left of the record given. In a run, one hem_start and then frames, let E be the frame
+   that hem_check tells of the end or fault: frame k shows E - k, up to frame E. If the track ends there and restarts,
+   frame E + 1 shows E again, and so on; else all later frames show 0, as all do after a refused start. So a frame of a
+   run shows 0 exactly if it has no events.
 
    The answer has HEM_ANSWER_WORDS words. The returned number and the record never depend on answer_len: as many words
    as fit are written, and what lies behind them stays. */

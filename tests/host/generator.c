@@ -303,12 +303,27 @@ static void damage_channel(hem_channel *channel)
     }
 }
 
+static uint32_t random_frames(void)
+{
+    return one_in(8) ? MOST_FRAMES - below(3) : below(one_in(4) ? MOST_FRAMES + 1 : 40);
+}
+
+static void damage_frames(uint32_t *frames)
+{
+    *frames = one_in(2) ? MOST_FRAMES + below(3) : (uint32_t)random_bits();
+}
+
+/* A third has a channel damaged, a twelfth a number of frames. */
 void random_record(hem_player *player)
 {
     memset(player, 0, sizeof *player);
     player->stopped = one_in(16) ? any_byte() : 0;
     for (int i = 0; i < HEM_CHANNELS; i++)
         random_channel(&player->channels[i], i == HEM_NOISE);
+    player->frames_left = random_frames();
+    player->pass_length = random_frames();
     if (one_in(3))
         damage_channel(&player->channels[below(HEM_CHANNELS)]);
+    else if (one_in(8))
+        damage_frames(one_in(2) ? &player->frames_left : &player->pass_length);
 }

@@ -88,12 +88,14 @@ ref_player as_reference(const hem_player *player)
         r.channels[i].left = player->channels[i].left;
         r.channels[i].sounding = player->channels[i].sounding;
     }
+    r.frames_left = player->frames_left;
+    r.pass_length = player->pass_length;
     return r;
 }
 
 int same_record(const hem_player *a, const ref_player *b)
 {
-    int same = a->stopped == b->stopped;
+    int same = a->stopped == b->stopped && a->frames_left == b->frames_left && a->pass_length == b->pass_length;
     for (int i = 0; i < HEM_CHANNELS; i++) {
         const hem_channel *x = &a->channels[i];
         const ref_channel *y = &b->channels[i];

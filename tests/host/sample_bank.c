@@ -5,7 +5,8 @@
 
 static uint8_t bank[HEM_BANK_SIZE];
 
-/* Track 0 passes, track 1 meets a byte that is no command, the others are empty. */
+/* Track 0 passes, track 1 meets a byte that is no command, track 2 restarts in frame 36, track 3 stops in frame 12, the
+   others are empty. */
 static void build(void)
 {
     setup s;
@@ -13,6 +14,11 @@ static void build(void)
     typical_track(&s);
     s.track = 1;
     put_channel(&s, HEM_TRIANGLE, DATA_OF(4), BYTES(0xB0, 0x2A, 0xA0));
+    s.track = 2;
+    header_of(&s)[RESTART] = 0xFF;
+    put_channel(&s, HEM_TRIANGLE, DATA_OF(5), BYTES(0xB1, 0x2A, 0xB2, 0x34, 0x00));
+    s.track = 3;
+    put_channel(&s, HEM_TRIANGLE, DATA_OF(6), BYTES(0xB1, 0x2A, 0x00));
 }
 
 int main(int argc, char **argv)

@@ -35,7 +35,8 @@ enum {
     PERIOD_BYTES = 128,
     PRESET_BYTES = 13,
     ENVELOPES = 5,
-    ENVELOPE_TABLE_BYTES = 2 * ENVELOPES
+    ENVELOPE_TABLE_BYTES = 2 * ENVELOPES,
+    MOST_FRAMES = 16777216 /* that a record may name */
 };
 
 /* Where the hand-built banks have the data of channel 0; each next one stands a page on. */

@@ -1,22 +1,8 @@
 /* The record as C sees it and as the library writes it. */
 #include "host_test.h"
+#include "layout.h"
 
-#include <stdalign.h>
 #include <string.h>
-
-static void test_offsets(void)
-{
-    EXPECT(sizeof(hem_channel) == 8 && alignof(hem_channel) == 2);
-    EXPECT(offsetof(hem_channel, next) == 0);
-    EXPECT(offsetof(hem_channel, loop_start) == 2);
-    EXPECT(offsetof(hem_channel, counter) == 4);
-    EXPECT(offsetof(hem_channel, length) == 5);
-    EXPECT(offsetof(hem_channel, left) == 6);
-    EXPECT(offsetof(hem_channel, sounding) == 7);
-    EXPECT(sizeof(hem_player) == 34 && alignof(hem_player) == 2);
-    EXPECT(offsetof(hem_player, stopped) == 0);
-    EXPECT(offsetof(hem_player, channels) == 2);
-}
 
 /* The words of verdict and answer, as the paper numbers them; the independent answer has the same. */
 static void test_words_told(void)
@@ -26,15 +12,15 @@ static void test_words_told(void)
     EXPECT(HEM_VERDICT_WORDS == 4);
     EXPECT(HEM_ANSWER_KIND == 0 && HEM_ANSWER_COUNTS == 1);
     EXPECT(HEM_ANSWER_CHANNEL == 5 && HEM_ANSWER_OFFSET == 6 && HEM_ANSWER_ADDRESS == 7);
-    EXPECT(HEM_ANSWER_PARTS == 8 && HEM_ANSWER_WORDS == 28);
+    EXPECT(HEM_ANSWER_LEFT == 8 && HEM_ANSWER_PARTS == 9 && HEM_ANSWER_WORDS == 29);
     EXPECT(HEM_ANSWER_PART(HEM_CHANNELS) == HEM_ANSWER_WORDS);
     EXPECT(HEM_ANSWER_WORDS == REF_ANSWER_WORDS);
 }
 
-/* Start clears the 33 bytes that have a meaning and nothing behind them. */
+/* Start writes the 41 bytes that have a meaning and nothing around them. The triangle ends the track in frame 6. */
 static void test_extent(const setup *s)
 {
-    struct { uint8_t before[2]; hem_player player; uint8_t after[14]; } lent;
+    struct { uint8_t before[4]; hem_player player; uint8_t after[16]; } lent;
     uint8_t pattern[sizeof lent.after];
     const uint8_t zeros[sizeof lent.player.channels] = { 0 };
     fill_pattern(&lent, sizeof lent);
@@ -43,6 +29,7 @@ static void test_extent(const setup *s)
     EXPECT(memcmp(lent.before, pattern, sizeof lent.before) == 0);
     EXPECT(lent.player.stopped == 0);
     EXPECT(memcmp(lent.player.channels, zeros, sizeof zeros) == 0);
+    EXPECT(lent.player.frames_left == 6 && lent.player.pass_length == 6);
     EXPECT(memcmp(lent.after, pattern, sizeof lent.after) == 0);
 }
 
@@ -61,18 +48,18 @@ static void test_bytes(const setup *s)
     EXPECT(hem_frame(&player, SETUP(s), answer, HEM_ANSWER_WORDS) == HEM_OK);
     EXPECT(player.stopped == 0);
     EXPECT(memcmp(player.channels, after_one, sizeof after_one) == 0);
+    EXPECT(player.frames_left == 5 && player.pass_length == 6);
 }
 
 void test_layout(void)
 {
     static uint8_t bank[HEM_BANK_SIZE];
     setup s;
-    begin_part("layout", 27);
+    begin_part("layout", 19);
     plain_setup(&s, bank);
     use_channel(&s, HEM_SQUARE_1, BYTES(0xC2, 0xB1, 0x2A, 0xFF, 0x00));
     use_channel(&s, HEM_TRIANGLE, BYTES(0xB0, 0x30, 0x00));
     use_channel(&s, HEM_NOISE, BYTES(0xC1, 0xFF, 0xFE, 0xB2, 0x07, 0x00));
-    test_offsets();
     test_words_told();
     test_extent(&s);
     test_bytes(&s);

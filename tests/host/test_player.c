@@ -3,14 +3,31 @@
 
 #include <string.h>
 
-enum { MOST_ROOM = HEM_ANSWER_WORDS + 3, LENT = MOST_ROOM + 2, FRAMES = 60, FORESEEN_LIMIT = 400 };
+/* FRAMES_BEHIND: of a run behind its first stop, with restart behind the next one. */
+enum {
+    MOST_ROOM = HEM_ANSWER_WORDS + 3,
+    LENT = MOST_ROOM + 2,
+    FRAMES = 60,
+    FORESEEN_LIMIT = 400,
+    FRAMES_BEHIND = 3
+};
 
-/* Expectations of start, of a frame, and of a round: these two, one of what is foreseen, one of the bank. */
-enum { EACH_START = 3, EACH_FRAME = 5, LEAST_EACH = EACH_START + EACH_FRAME + 2 };
+/* Expectations of start, of a frame, and of a round: these two, two of what is foreseen, one of the bank. */
+enum { EACH_START = 3, EACH_FRAME = 6, LEAST_EACH = EACH_START + EACH_FRAME + 3 };
 
-/* How often each kind of answer, each state of a channel, an address further than the bank's end, and an end and a
-   fault that the check foresaw were seen. */
-static unsigned long kinds[HEM_REFUSED + 1], states[HEM_NOTE + 1], past_bank_end, ends, faults;
+/* How often each kind of answer, each state of a channel and an address further than the bank's end were seen; an end,
+   a restart and a fault that the check foresaw; 16 by a number of frames alone, also of a stopped record; and events
+   with no frames left. */
+static unsigned long kinds[HEM_REFUSED + 1], states[HEM_NOTE + 1], past_bank_end;
+static unsigned long ends, restarts, faults, too_many, too_many_stopped, none_left;
+
+static void count_frames(const hem_player *given, uint32_t number, const uint32_t *answer)
+{
+    int above = given->frames_left > MOST_FRAMES || given->pass_length > MOST_FRAMES;
+    too_many += number == HEM_BAD_RECORD && above;
+    too_many_stopped += number == HEM_BAD_RECORD && above && given->stopped != 0;
+    none_left += answer[HEM_ANSWER_KIND] == HEM_EVENTS && given->frames_left == 0;
+}
 
 static void count_answer(const uint32_t *answer)
 {
@@ -29,8 +46,11 @@ static void expect_all_seen(unsigned long rounds)
     EXPECT(states[HEM_REST] > 0 && states[HEM_NOTE] > 0);
     printf("addresses further than the bank's end: %lu\n", past_bank_end);
     EXPECT(past_bank_end > rounds / 100);
-    printf("foreseen and met: ends %lu, faults %lu\n", ends, faults);
-    EXPECT(ends > rounds / 10 && faults > rounds / 10);
+    printf("foreseen and met: ends %lu, restarts %lu, faults %lu\n", ends, restarts, faults);
+    EXPECT(ends > rounds / 10 && restarts > rounds / 20 && faults > rounds / 10);
+    printf("too many frames: %lu, of them stopped %lu; events with no frames left: %lu\n", too_many, too_many_stopped,
+           none_left);
+    EXPECT(too_many > rounds / 20 && too_many_stopped > rounds / 500 && none_left > rounds / 20);
 }
 
 static void compare_start(const setup *s, hem_player *player)
@@ -43,10 +63,11 @@ static void compare_start(const setup *s, hem_player *player)
     EXPECT(same_record(player, &wanted));
 }
 
-/* One frame: number, answer as far as it fits, what lies behind it, and the record; and the address, whatever the
-   independent player tells. */
+/* One frame: number, answer as far as it fits, what lies behind it, and the record; and the address and the frames
+   left, whatever the independent player tells. */
 static uint32_t compare_frame(const setup *s, hem_player *player, size_t room)
 {
+    const hem_player given = *player;
     ref_player next = as_reference(player);
     uint32_t told[REF_ANSWER_WORDS];
     uint32_t found[LENT], wanted[LENT];
@@ -56,6 +77,7 @@ static uint32_t compare_frame(const setup *s, hem_player *player, size_t room)
     fill_pattern(wanted, sizeof wanted);
     memcpy(wanted, told, written * sizeof told[0]);
     count_answer(told);
+    count_frames(&given, wanted_number, told);
     uint32_t number = hem_frame(player, SETUP(s), found, room);
     count_number(FRAME, number);
     EXPECT(number == wanted_number);
@@ -64,6 +86,7 @@ static uint32_t compare_frame(const setup *s, hem_player *player, size_t room)
     EXPECT(room <= HEM_ANSWER_ADDRESS
            || right_address(s, wanted_number, found[HEM_ANSWER_CHANNEL], found[HEM_ANSWER_OFFSET],
                             found[HEM_ANSWER_ADDRESS]));
+    EXPECT(room <= HEM_ANSWER_LEFT || found[HEM_ANSWER_LEFT] == given.frames_left);
     return number;
 }
 
@@ -96,34 +119,54 @@ static int met_by(const uint32_t *counts, uint32_t channel)
     return met;
 }
 
-/* What the check foresees is what a run from start shows, and nothing before it. */
-static void compare_foreseen(const setup *s)
+/* What a frame answers: its number, its kind and the frames left. */
+typedef struct { uint32_t number, kind, left; } foreseen;
+
+/* Of frame n of a run from start, by the verdict's number and frame. */
+static foreseen foresee(uint32_t number, uint32_t last, int again, uint32_t n)
 {
-    hem_player player;
-    uint32_t verdict[HEM_VERDICT_WORDS] = { 0 };
-    uint32_t answer[HEM_ANSWER_WORDS] = { 0 };
-    uint32_t number = hem_check(SETUP(s), verdict, HEM_VERDICT_WORDS);
-    uint32_t last = verdict[number == HEM_OK ? HEM_PASS_FRAME : HEM_FAULT_FRAME];
-    uint32_t started = hem_start(&player, SETUP(s));
-    EXPECT(started == (number < HEM_NO_COMMAND ? number : HEM_OK));
-    if (started != HEM_OK || last > FORESEEN_LIMIT)
-        return;
-    for (uint32_t i = 0; i < last; i++) {
-        EXPECT(hem_frame(&player, SETUP(s), answer, HEM_ANSWER_WORDS) == HEM_OK);
-        EXPECT(answer[HEM_ANSWER_KIND] == HEM_EVENTS);
-    }
-    EXPECT(hem_frame(&player, SETUP(s), answer, HEM_ANSWER_WORDS) == number);
-    if (number == HEM_OK) {
-        ends++;
-        EXPECT(answer[HEM_ANSWER_KIND] == HEM_END);
+    uint32_t in_pass = again ? n % (last + 1) : n;
+    if (in_pass < last)
+        return (foreseen){ HEM_OK, HEM_EVENTS, last - in_pass };
+    if (number != HEM_OK)
+        return (foreseen){ number, HEM_REFUSED, 0 };
+    return (foreseen){ HEM_OK, in_pass == last ? HEM_END : HEM_STOPPED, 0 };
+}
+
+static void expect_stop(uint32_t kind, const uint32_t *answer, const uint32_t *verdict)
+{
+    if (kind == HEM_END)
         EXPECT(met_by(answer + HEM_ANSWER_COUNTS, verdict[HEM_PASS_CHANNEL]));
-    } else {
-        faults++;
-        EXPECT(answer[HEM_ANSWER_KIND] == HEM_REFUSED);
+    if (kind == HEM_REFUSED) {
         EXPECT(answer[HEM_ANSWER_CHANNEL] == verdict[HEM_FAULT_CHANNEL]);
         EXPECT(answer[HEM_ANSWER_OFFSET] == verdict[HEM_FAULT_OFFSET]);
         EXPECT(answer[HEM_ANSWER_ADDRESS] == verdict[HEM_FAULT_ADDRESS]);
     }
+}
+
+/* What the check foresees is what a run from start shows, before the stop, there and behind it. A refusal 1 to 9 writes
+   no verdict: its frame and place are zeros. */
+static void compare_foreseen(const setup *s)
+{
+    hem_player player;
+    uint32_t verdict[HEM_VERDICT_WORDS] = { 0 };
+    uint32_t number = hem_check(SETUP(s), verdict, HEM_VERDICT_WORDS);
+    uint32_t last = verdict[number == HEM_OK ? HEM_PASS_FRAME : HEM_FAULT_FRAME];
+    int again = number == HEM_OK && header_of(s)[RESTART] != 0;
+    EXPECT(hem_start(&player, SETUP(s)) == (number < HEM_NO_COMMAND ? number : HEM_OK));
+    EXPECT(player.frames_left == last && player.pass_length == last);
+    if (last > FORESEEN_LIMIT)
+        return;
+    for (uint32_t n = 0; n < (again ? 2 : 1) * (last + 1) + FRAMES_BEHIND; n++) {
+        uint32_t answer[HEM_ANSWER_WORDS] = { 0 };
+        foreseen wanted = foresee(number, last, again, n);
+        EXPECT(hem_frame(&player, SETUP(s), answer, HEM_ANSWER_WORDS) == wanted.number);
+        EXPECT(answer[HEM_ANSWER_KIND] == wanted.kind && answer[HEM_ANSWER_LEFT] == wanted.left);
+        expect_stop(wanted.kind, answer, verdict);
+    }
+    ends += number == HEM_OK;
+    restarts += again != 0;
+    faults += number >= HEM_NO_COMMAND;
 }
 
 /* Six frames with events and then a fault, into every room. */

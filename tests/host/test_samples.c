@@ -13,38 +13,67 @@ static void expect_verdict(const setup *s, uint32_t number, const uint32_t wante
     EXPECT(memcmp(verdict, wanted, sizeof verdict) == 0);
 }
 
+/* The track starts, and stops in this frame. */
+static void start_track(const setup *s, uint32_t frame, hem_player *player)
+{
+    EXPECT(hem_start(player, SETUP(s)) == HEM_OK);
+    EXPECT(player->frames_left == frame && player->pass_length == frame);
+}
+
 static void expect_pass(const setup *s, uint32_t frame, uint32_t channel)
 {
     const uint32_t wanted[HEM_VERDICT_WORDS] = { frame, channel, 0, 0 };
+    hem_player player;
     expect_verdict(s, HEM_OK, wanted);
+    start_track(s, frame, &player);
 }
 
-/* A frame's number and kind, and the place it tells: three zeros where there is none. */
-static void expect_frame(const setup *s, hem_player *player, uint32_t number, uint32_t kind, uint32_t channel,
-                         uint32_t offset, uint32_t address)
+/* A frame's number, kind and frames left, and the place it tells: three zeros where there is none. */
+static void expect_frame(const setup *s, hem_player *player, uint32_t number, uint32_t kind, uint32_t left,
+                         uint32_t channel, uint32_t offset, uint32_t address)
 {
     uint32_t answer[HEM_ANSWER_WORDS];
     EXPECT(hem_frame(player, SETUP(s), answer, HEM_ANSWER_WORDS) == number);
-    EXPECT(answer[HEM_ANSWER_KIND] == kind && answer[HEM_ANSWER_CHANNEL] == channel);
-    EXPECT(answer[HEM_ANSWER_OFFSET] == offset && answer[HEM_ANSWER_ADDRESS] == address);
+    EXPECT(answer[HEM_ANSWER_KIND] == kind && answer[HEM_ANSWER_LEFT] == left);
+    EXPECT(answer[HEM_ANSWER_CHANNEL] == channel && answer[HEM_ANSWER_OFFSET] == offset);
+    EXPECT(answer[HEM_ANSWER_ADDRESS] == address);
 }
 
+/* So many up to the track's stop. */
 static void expect_events(const setup *s, hem_player *player, uint32_t frames)
 {
-    for (uint32_t i = 0; i < frames; i++)
-        expect_frame(s, player, HEM_OK, HEM_EVENTS, 0, 0, 0);
+    for (uint32_t left = frames; left > 0; left--)
+        expect_frame(s, player, HEM_OK, HEM_EVENTS, left, 0, 0, 0);
 }
 
-/* From the check, and from the frame that meets it. */
+/* From the check, from the frame that meets it and from the next one. */
 static void expect_fault(const setup *s, uint32_t number, uint32_t channel, uint32_t offset, uint32_t frame,
                          uint32_t address)
 {
     const uint32_t wanted[HEM_VERDICT_WORDS] = { channel, offset, frame, address };
     hem_player player;
     expect_verdict(s, number, wanted);
-    EXPECT(hem_start(&player, SETUP(s)) == HEM_OK);
+    start_track(s, frame, &player);
     expect_events(s, &player, frame);
-    expect_frame(s, &player, number, HEM_REFUSED, channel, offset, address);
+    expect_frame(s, &player, number, HEM_REFUSED, 0, channel, offset, address);
+    expect_frame(s, &player, number, HEM_REFUSED, 0, channel, offset, address);
+}
+
+/* To the end and behind it, without and with a restart. */
+static void expect_passes(const setup *s, uint32_t frame)
+{
+    hem_player player;
+    start_track(s, frame, &player);
+    expect_events(s, &player, frame);
+    expect_frame(s, &player, HEM_OK, HEM_END, 0, 0, 0, 0);
+    expect_frame(s, &player, HEM_OK, HEM_STOPPED, 0, 0, 0, 0);
+    expect_frame(s, &player, HEM_OK, HEM_STOPPED, 0, 0, 0, 0);
+    header_of(s)[RESTART] = 0xFF;
+    start_track(s, frame, &player);
+    for (int pass = 0; pass < 3; pass++) {
+        expect_events(s, &player, frame);
+        expect_frame(s, &player, HEM_OK, HEM_END, 0, 0, 0, 0);
+    }
 }
 
 static void triangle_passes(uint32_t frame, const uint8_t *bytes, size_t count)
@@ -53,6 +82,7 @@ static void triangle_passes(uint32_t frame, const uint8_t *bytes, size_t count)
     plain_setup(&s, bank);
     use_channel(&s, HEM_TRIANGLE, bytes, count);
     expect_pass(&s, frame, HEM_TRIANGLE);
+    expect_passes(&s, frame);
 }
 
 static void triangle_faults(uint32_t number, uint32_t offset, uint32_t frame, uint32_t address, const uint8_t *bytes,
@@ -104,16 +134,32 @@ static void test_edges(void)
     expect_fault(&s, HEM_PAST_DATA, HEM_TRIANGLE, 1, 0, 0xC000);
 }
 
-static void test_extremes(void)
+/* With one note more in place of the end the latest refusal, 15, comes after 253 x 255 x 256 frames. */
+static void test_latest(void)
 {
+    static const uint32_t wanted[HEM_VERDICT_WORDS] = { HEM_SQUARE_1, 256, 16515840, 0x9100 };
     hem_player player;
-    uint32_t answer[HEM_ANSWER_WORDS];
     setup s;
     plain_setup(&s, bank);
     for (int i = HEM_NOISE; i >= HEM_SQUARE_1; i--) {
         latest_end(&s, i);
         expect_pass(&s, 16450560, (uint32_t)i);
     }
+    start_track(&s, 16450560, &player);
+    expect_frame(&s, &player, HEM_OK, HEM_EVENTS, 16450560, 0, 0, 0);
+    expect_frame(&s, &player, HEM_OK, HEM_EVENTS, 16450559, 0, 0, 0);
+    plain_setup(&s, bank);
+    latest_end(&s, HEM_SQUARE_1);
+    memcpy(byte_at(&s, DATA_OF(HEM_SQUARE_1) + 254), (uint8_t[]){ 0x2A, 0xFF }, 2);
+    expect_verdict(&s, HEM_PAST_DATA, wanted);
+    start_track(&s, 16515840, &player);
+}
+
+static void test_most_commands(void)
+{
+    hem_player player;
+    uint32_t answer[HEM_ANSWER_WORDS];
+    setup s;
     plain_setup(&s, bank);
     most_commands(&s, HEM_SQUARE_1);
     expect_fault(&s, HEM_PAST_DATA, HEM_SQUARE_1, 256, 0, 0x9100);
@@ -197,8 +243,62 @@ static void test_record_past_data(void)
     *byte_at(&s, AFTER_BANK - 1) = 0xFF;
     for (size_t i = 0; i < sizeof places / sizeof places[0]; i++) {
         hem_player player = { .channels = { [HEM_TRIANGLE] = places[i].record } };
-        expect_frame(&s, &player, HEM_PAST_DATA, HEM_REFUSED, HEM_TRIANGLE, places[i].offset, places[i].address);
+        expect_frame(&s, &player, HEM_PAST_DATA, HEM_REFUSED, 0, HEM_TRIANGLE, places[i].offset, places[i].address);
     }
+}
+
+/* What of a record is not its channels. */
+typedef struct { uint8_t stopped; uint32_t frames_left, pass_length; } marks;
+
+/* A record whose channels are fresh: what a frame answers, and the marks that it hands back. */
+static void expect_marks(const setup *s, marks given, uint32_t number, uint32_t kind, marks wanted)
+{
+    hem_player player = { given.stopped, { { 0, 0, 0, 0, 0, 0 } }, given.frames_left, given.pass_length };
+    uint32_t answer[HEM_ANSWER_WORDS];
+    EXPECT(hem_frame(&player, SETUP(s), answer, HEM_ANSWER_WORDS) == number);
+    EXPECT(answer[HEM_ANSWER_KIND] == kind && answer[HEM_ANSWER_LEFT] == given.frames_left);
+    EXPECT(player.stopped == wanted.stopped && player.frames_left == wanted.frames_left);
+    EXPECT(player.pass_length == wanted.pass_length);
+}
+
+/* 16 by either number, also of a stopped record, whatever the track does; after 1 to 9. */
+static void expect_most_frames(setup *s)
+{
+    static const marks above[] = { { 0, 16777217, 0 }, { 0, 0, 16777217 }, { 1, 16777217, 16777216 },
+                                   { 255, 16777216, 16777217 }, { 0, UINT32_MAX, 5 }, { 0, 5, UINT32_MAX } };
+    const marks most = { 1, 16777216, 16777216 };
+    for (size_t i = 0; i < sizeof above / sizeof above[0]; i++) {
+        expect_marks(s, above[i], HEM_BAD_RECORD, HEM_REFUSED, above[i]);
+        s->track = HEM_PUBLISHED_TRACK_COUNT;
+        expect_marks(s, above[i], HEM_BAD_TRACK, HEM_REFUSED, above[i]);
+        s->track = 0;
+    }
+    expect_marks(s, most, HEM_OK, HEM_STOPPED, most);
+}
+
+static void test_record_frames(void)
+{
+    setup s;
+    plain_setup(&s, bank);
+    use_channel(&s, HEM_TRIANGLE, BYTES(0xB0, 0x2A, 0x00));
+    expect_most_frames(&s);
+    expect_marks(&s, (marks){ 0, 16777216, 16777216 }, HEM_OK, HEM_EVENTS, (marks){ 0, 16777215, 16777216 });
+    expect_marks(&s, (marks){ 0, 9, 3 }, HEM_OK, HEM_EVENTS, (marks){ 0, 8, 3 });
+    expect_marks(&s, (marks){ 0, 1, 3 }, HEM_OK, HEM_EVENTS, (marks){ 0, 0, 3 });
+    expect_marks(&s, (marks){ 0, 0, 3 }, HEM_OK, HEM_EVENTS, (marks){ 0, 0, 3 });
+    expect_marks(&s, (marks){ 7, 9, 3 }, HEM_OK, HEM_STOPPED, (marks){ 7, 9, 3 });
+    use_channel(&s, HEM_TRIANGLE, BYTES(0x00));
+    expect_most_frames(&s);
+    expect_marks(&s, (marks){ 0, 16777216, 16777216 }, HEM_OK, HEM_END, (marks){ 1, 0, 0 });
+    expect_marks(&s, (marks){ 0, 9, 3 }, HEM_OK, HEM_END, (marks){ 1, 0, 0 });
+    header_of(&s)[RESTART] = 1;
+    expect_most_frames(&s);
+    expect_marks(&s, (marks){ 0, 0, 16777216 }, HEM_OK, HEM_END, (marks){ 0, 16777216, 16777216 });
+    expect_marks(&s, (marks){ 0, 9, 3 }, HEM_OK, HEM_END, (marks){ 0, 3, 3 });
+    expect_marks(&s, (marks){ 0, 9, 0 }, HEM_OK, HEM_END, (marks){ 0, 0, 0 });
+    use_channel(&s, HEM_TRIANGLE, BYTES(0xA0));
+    expect_most_frames(&s);
+    expect_marks(&s, (marks){ 0, 9, 3 }, HEM_NO_COMMAND, HEM_REFUSED, (marks){ 0, 9, 3 });
 }
 
 /* Events, end, stopped, 16 and 1 to 9 tell no place. */
@@ -210,12 +310,12 @@ static void test_no_place(void)
     use_channel(&s, HEM_TRIANGLE, BYTES(0xB0, 0x2A, 0x00));
     EXPECT(hem_start(&player, SETUP(&s)) == HEM_OK);
     expect_events(&s, &player, 6);
-    expect_frame(&s, &player, HEM_OK, HEM_END, 0, 0, 0);
-    expect_frame(&s, &player, HEM_OK, HEM_STOPPED, 0, 0, 0);
+    expect_frame(&s, &player, HEM_OK, HEM_END, 0, 0, 0, 0);
+    expect_frame(&s, &player, HEM_OK, HEM_STOPPED, 0, 0, 0, 0);
     player.channels[HEM_TRIANGLE].next = HEM_DATA_LIMIT + 1;
-    expect_frame(&s, &player, HEM_BAD_RECORD, HEM_REFUSED, 0, 0, 0);
+    expect_frame(&s, &player, HEM_BAD_RECORD, HEM_REFUSED, 0, 0, 0, 0);
     s.track = HEM_PUBLISHED_TRACK_COUNT;
-    expect_frame(&s, &player, HEM_BAD_TRACK, HEM_REFUSED, 0, 0, 0);
+    expect_frame(&s, &player, HEM_BAD_TRACK, HEM_REFUSED, 0, 0, 0, 0);
 }
 
 /* Square 1 with default B3 and envelope 04 02 FF, square 2 with default 0 and the same, a dynamic release, a preset. */
@@ -249,15 +349,17 @@ static void test_events(void)
 
 void test_samples(void)
 {
-    begin_part("samples", 314);
+    begin_part("samples", 26256);
     test_triangles();
     test_order_of_channels();
     test_edges();
-    test_extremes();
+    test_latest();
+    test_most_commands();
     test_fault_places();
     test_past_data();
     test_fault_of_second();
     test_record_past_data();
+    test_record_frames();
     test_no_place();
     test_events();
 }

@@ -12,18 +12,20 @@ ref_kind ref_kind_of(int channel)
     return channel == REF_NOISE_CHANNEL ? REF_NOISE : REF_MELODIC;
 }
 
-static ref_player fresh(void)
+static ref_player fresh(uint32_t frames)
 {
     ref_player p;
     memset(&p, 0, sizeof p);
+    p.frames_left = frames;
+    p.pass_length = frames;
     return p;
 }
 
 uint32_t ref_start(ref_player *p, const uint8_t *bank, size_t len, const ref_places *places, uint32_t track)
 {
-    ref_track opened;
-    *p = fresh();
-    return ref_open(bank, len, places, track, &opened);
+    ref_verdict first_stop = ref_check_by_channels(bank, len, places, track);
+    *p = fresh((uint32_t)first_stop.frame);
+    return first_stop.number <= REF_NO_CHANNEL ? first_stop.number : 0;
 }
 
 static int channel_is_good(ref_kind kind, const ref_channel *ch)
@@ -37,6 +39,8 @@ static int channel_is_good(ref_kind kind, const ref_channel *ch)
 
 static int record_is_good(const ref_track *track, const ref_player *p)
 {
+    if (p->frames_left > REF_MOST_FRAMES || p->pass_length > REF_MOST_FRAMES)
+        return 0;
     for (int i = 0; i < REF_CHANNELS; i++)
         if (track->data[i] != NULL && !channel_is_good(ref_kind_of(i), &p->channels[i]))
             return 0;
@@ -121,6 +125,13 @@ static uint32_t refuse_at(uint32_t *answer, uint32_t number, const ref_track *tr
     return refuse(answer, number);
 }
 
+static ref_player after_end(const ref_track *track, uint32_t pass_length)
+{
+    ref_player p = fresh(track->restart != 0 ? pass_length : 0);
+    p.stopped = track->restart == 0;
+    return p;
+}
+
 /* The reading part of a frame. The record is stored only with events or an end. */
 static uint32_t run_frame(ref_player *p, const ref_track *track, uint32_t *answer)
 {
@@ -139,8 +150,7 @@ static uint32_t run_frame(ref_player *p, const ref_track *track, uint32_t *answe
             if (number != 0)
                 return refuse_at(answer, number, track, i, offset);
             if (ended) {
-                *p = fresh();
-                p->stopped = track->restart == 0;
+                *p = after_end(track, p->pass_length);
                 answer[0] = REF_END;
                 return 0;
             }
@@ -149,6 +159,8 @@ static uint32_t run_frame(ref_player *p, const ref_track *track, uint32_t *answe
         tell(track, i, ch, began, &parts[REF_PART_WORDS * i]);
         ch->left = (uint8_t)(ch->left - 1);
     }
+    if (next.frames_left > 0)
+        next.frames_left -= 1;
     *p = next;
     answer[0] = REF_EVENTS;
     memcpy(&answer[REF_ANSWER_PARTS], parts, sizeof parts);
@@ -160,6 +172,7 @@ uint32_t ref_frame(ref_player *p, const uint8_t *bank, size_t len, const ref_pla
 {
     ref_track opened;
     memset(answer, 0, REF_ANSWER_WORDS * sizeof answer[0]);
+    answer[REF_ANSWER_LEFT] = p->frames_left;
     uint32_t number = ref_open(bank, len, places, track, &opened);
     if (number != 0)
         return refuse(answer, number);

@@ -1,5 +1,5 @@
-/* A plain reading of the two papers, kept apart from the proved library so that the two can be compared.
-   Document 01 is the contract, document 001 the published format. */
+/* A plain reading of the papers, kept apart from the proved library so that the two can be compared.
+   Document 01 is the contract, document 02 what was asked for after it, document 001 the published format. */
 #ifndef REFERENCE_H
 #define REFERENCE_H
 
@@ -19,7 +19,8 @@
 
 #define REF_DATA_LIMIT 256u
 #define REF_LENGTH_COUNT 40u
-#define REF_ANSWER_WORDS 28
+#define REF_MOST_FRAMES 16777216u /* that a record may name */
+#define REF_ANSWER_WORDS 29
 
 /* Numbers of refusal. */
 enum {
@@ -96,7 +97,11 @@ uint32_t ref_open(const uint8_t *bank, size_t len, const ref_places *places, uin
 uint32_t ref_address_of(const ref_track *track, int channel, uint32_t offset);
 
 typedef struct { uint16_t next, loop_start; uint8_t counter, length, left, sounding; } ref_channel;
-typedef struct { uint8_t stopped; ref_channel channels[REF_CHANNELS]; } ref_player;
+typedef struct {
+    uint8_t stopped;
+    ref_channel channels[REF_CHANNELS];
+    uint32_t frames_left, pass_length; /* until the first stop: the end, or the refusal of a track that doesn't pass */
+} ref_player;
 
 ref_kind ref_kind_of(int channel);
 
@@ -109,6 +114,7 @@ ref_timeline ref_walk(ref_kind kind, const uint8_t *data, size_t len, const uint
 uint32_t ref_read_until(ref_kind kind, const uint8_t *data, size_t len, const uint8_t lengths[40], uint8_t t,
                         ref_channel *ch, int *ended, uint32_t *offset, uint32_t *count);
 
+/* Returns 0 or 1 to 9. Both numbers of the record are the first stop's frame by each channel's walk. */
 uint32_t ref_start(ref_player *p, const uint8_t *bank, size_t len, const ref_places *places, uint32_t track);
 
 /* answer[0] */
@@ -119,7 +125,8 @@ enum { REF_OFF = 0, REF_REST = 1, REF_NOTE = 2 };
 #define REF_ANSWER_CHANNEL 5
 #define REF_ANSWER_OFFSET 6
 #define REF_ANSWER_ADDRESS 7
-#define REF_ANSWER_PARTS 8
+#define REF_ANSWER_LEFT 8
+#define REF_ANSWER_PARTS 9
 #define REF_PART_WORDS 5
 #define REF_RELEASE_NEVER 255u
 

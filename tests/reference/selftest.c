@@ -5,7 +5,7 @@
 #include <string.h>
 
 /* Fewer would say that some of the tests did not run. */
-#define LEAST_CHECKS 440000u
+#define LEAST_CHECKS 1400000u
 
 static const char zero_bank_lines[] =
     "0 refuse 9\n1 refuse 9\n2 refuse 9\n3 refuse 9\n4 refuse 9\n5 refuse 9\n"

@@ -42,10 +42,15 @@ int same_record(const ref_player *a, const ref_player *b);
 int same_verdict(const ref_verdict *a, const ref_verdict *b);
 void expect_pass(cart *c, uint64_t frame, uint32_t channel);
 void expect_fault(cart *c, uint32_t number, uint32_t channel, uint32_t offset, uint64_t frame, uint32_t address);
+/* Runs the track past its first stop, with restart past the next one: the frames left that start and each frame tell
+   are those of the first stop that ref_check_by_frames meets. */
+void expect_countdown(cart *c, size_t len, uint32_t track);
 /* Runs start and frames 0 to n; the answer is frame n's. */
 uint32_t frame_after(cart *c, uint64_t n, ref_player *p, uint32_t *answer);
 /* What the answer says of a fault's place; three zeros of no fault. */
 int place_is(const uint32_t *answer, uint32_t channel, uint32_t offset, uint32_t address);
+/* Behind the kind all words are 0 but the frames left. */
+int tells_only_left(const uint32_t *answer, uint32_t left);
 
 uint32_t random_below(uint32_t limit);
 

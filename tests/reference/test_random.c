@@ -104,9 +104,9 @@ static cart *random_cart(void)
     return c;
 }
 
-/* How often each number and each kind of answer came, and an address at the bank's end and behind it, to see that the
-   tracks and records are of many sorts. */
-static unsigned verdicts[REF_NO_ROOM + 1], answers[REF_REFUSED + 1], at_bank_end, past_bank_end;
+/* How often each number and each kind of answer came, an address at the bank's end and behind it, and a record with
+   too many frames, to see that the tracks and records are of many sorts. */
+static unsigned verdicts[REF_NO_ROOM + 1], answers[REF_REFUSED + 1], at_bank_end, past_bank_end, too_many_frames;
 
 /* A fault's address is the header's word of its channel plus the offset; without a fault there is none. */
 static void check_address(cart *c, uint32_t number, uint32_t channel, uint32_t offset, uint32_t address)
@@ -136,6 +136,7 @@ static void test_checks_agree(void)
         ref_verdict by_channels = ref_check_by_channels(c->bytes, REF_BANK_SIZE, &c->places, 0);
         CHECK(same_verdict(&by_frames, &by_channels));
         check_address(c, by_frames.number, by_frames.channel, by_frames.offset, by_frames.address);
+        expect_countdown(c, REF_BANK_SIZE, 0);
         verdicts[by_frames.number]++;
         if (by_frames.frame > longest)
             longest = by_frames.frame;
@@ -162,20 +163,43 @@ static ref_channel random_channel(ref_kind kind)
     return ch;
 }
 
+/* Few, around the most that a record may name, or any. */
+static uint32_t random_frames(void)
+{
+    if (random_below(32) == 0)
+        return random_below(UINT32_MAX);
+    return random_below(16) == 0 ? 16777214 + random_below(5) : random_below(4);
+}
+
+/* What an answer shows and hands back of the frames, by the record that was given. */
+static void check_frames(cart *c, const ref_player *given, const ref_player *next, const uint32_t *answer)
+{
+    ref_player fresh = {0};
+    CHECK(answer[REF_ANSWER_LEFT] == given->frames_left);
+    if (answer[0] == REF_EVENTS) {
+        CHECK(next->pass_length == given->pass_length);
+        CHECK(next->frames_left == (given->frames_left == 0 ? 0 : given->frames_left - 1));
+    } else if (answer[0] == REF_END) {
+        fresh.stopped = cart_header(c)[HEADER_RESTART] == 0;
+        fresh.frames_left = fresh.pass_length = fresh.stopped ? 0 : given->pass_length;
+        CHECK(same_record(next, &fresh));
+    } else {
+        CHECK(same_record(next, given));
+    }
+}
+
 static void test_one_record(cart *c, const ref_player *given)
 {
     ref_player p = *given;
-    ref_player fresh = {0};
     uint32_t answer[REF_ANSWER_WORDS];
     uint32_t number = ref_frame(&p, c->bytes, REF_BANK_SIZE, &c->places, 0, answer);
     CHECK((answer[0] == REF_REFUSED) == (number != 0));
     CHECK(number == 0 || (number >= REF_NO_COMMAND && number <= REF_BAD_RECORD));
     check_address(c, number, answer[REF_ANSWER_CHANNEL], answer[REF_ANSWER_OFFSET], answer[REF_ANSWER_ADDRESS]);
-    if (number != 0 || answer[0] == REF_STOPPED)
-        CHECK(same_record(&p, given));
-    if (answer[0] == REF_END) {
-        fresh.stopped = cart_header(c)[HEADER_RESTART] == 0;
-        CHECK(same_record(&p, &fresh));
+    check_frames(c, given, &p, answer);
+    if (given->frames_left > 16777216 || given->pass_length > 16777216) {
+        CHECK(number == REF_BAD_RECORD);
+        too_many_frames++;
     }
     if (answer[0] != REF_EVENTS)
         for (int i = REF_ANSWER_PARTS; i < REF_ANSWER_WORDS; i++)
@@ -194,18 +218,21 @@ static void test_records(void)
         p.stopped = (uint8_t)(random_below(10) == 0 ? random_below(256) : 0);
         for (int j = 0; j < REF_CHANNELS; j++)
             p.channels[j] = random_channel(ref_kind_of(j));
+        p.frames_left = random_frames();
+        p.pass_length = random_frames();
         test_one_record(c, &p);
         free(c);
     }
     printf("random records: %u events, %u ends, %u stopped", answers[REF_EVENTS], answers[REF_END],
            answers[REF_STOPPED]);
     print_refusals();
-    printf("\n");
+    printf("; %u with too many frames\n", too_many_frames);
     for (int kind = REF_EVENTS; kind <= REF_REFUSED; kind++)
         CHECK(answers[kind] > 500);
     for (int number = REF_NO_COMMAND; number <= REF_PAST_DATA; number++)
         CHECK(verdicts[number] > 0);
     CHECK(verdicts[REF_BAD_RECORD] > 1000);
+    CHECK(too_many_frames > 1000);
     CHECK(past_bank_end > 10);
 }
 

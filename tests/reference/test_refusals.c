@@ -4,25 +4,24 @@
 #include <stdlib.h>
 #include <string.h>
 
-/* Start, frame and both checks answer the number, and nothing is told beside it. */
+/* Start, frame and both checks answer the number, and nothing is told beside it but the record's frames left. */
 static void expect_number(cart *c, size_t len, uint32_t track, uint32_t number)
 {
-    ref_player given = { .stopped = 7, .channels = { { 300, 300, 1, 2, 3, 4 } } };
+    ref_player given = { 7, { { 300, 300, 1, 2, 3, 4 } }, UINT32_MAX, 16777217 };
     ref_player p = given;
     ref_player fresh = {0};
     ref_verdict wanted = { number, 0, 0, 0, 0 };
     uint32_t answer[REF_ANSWER_WORDS];
     CHECK(ref_frame(&p, c->bytes, len, &c->places, track, answer) == number);
     CHECK(same_record(&p, &given));
-    CHECK(answer[0] == REF_REFUSED);
-    for (int i = 1; i < REF_ANSWER_WORDS; i++)
-        CHECK(answer[i] == 0);
+    CHECK(answer[0] == REF_REFUSED && tells_only_left(answer, UINT32_MAX));
     CHECK(ref_start(&p, c->bytes, len, &c->places, track) == number);
     CHECK(same_record(&p, &fresh));
     ref_verdict by_frames = ref_check_by_frames(c->bytes, len, &c->places, track);
     ref_verdict by_channels = ref_check_by_channels(c->bytes, len, &c->places, track);
     CHECK(same_verdict(&by_frames, &wanted));
     CHECK(same_verdict(&by_channels, &wanted));
+    expect_countdown(c, len, track);
 }
 
 /* A table of this size at its last place is good, one further it is not, nor below the bank or far beyond. */
@@ -134,8 +133,7 @@ static void expect_record(cart *c, int channel, ref_channel record, uint8_t stop
     CHECK(answer[0] == outcome);
     CHECK(outcome == REF_EVENTS || outcome == REF_END || same_record(&p, &given));
     if (number == REF_BAD_RECORD || outcome == REF_STOPPED)
-        for (int i = 1; i < REF_ANSWER_WORDS; i++)
-            CHECK(answer[i] == 0);
+        CHECK(tells_only_left(answer, 0));
 }
 
 /* Fields in order: next, loop, counter, length, left, sounding. */
@@ -159,6 +157,58 @@ static void test_records(void)
     expect_record(c, 3, (ref_channel){ 0, 0, 0, 5, 5, 0x00 }, 0, REF_BAD_RECORD, REF_REFUSED);
     expect_record(c, 3, (ref_channel){ 0, 0, 0, 5, 5, 0x02 }, 0, REF_BAD_RECORD, REF_REFUSED);
     expect_record(c, 3, (ref_channel){ 0, 0, 0, 5, 5, 0x0A }, 0, 0, REF_END);
+    free(c);
+}
+
+typedef struct { uint8_t stopped; uint32_t frames_left, pass_length; } marks;
+
+/* A record that is all 0 but for these: what a frame answers, and which it hands back. The frames left are shown as
+   they were given. */
+static void expect_marks(cart *c, marks given, uint32_t number, uint32_t outcome, marks wanted)
+{
+    ref_player p = { given.stopped, { { 0, 0, 0, 0, 0, 0 } }, given.frames_left, given.pass_length };
+    uint32_t answer[REF_ANSWER_WORDS];
+    CHECK(ref_frame(&p, c->bytes, REF_BANK_SIZE, &c->places, 0, answer) == number);
+    CHECK(answer[0] == outcome && answer[REF_ANSWER_LEFT] == given.frames_left);
+    CHECK(p.stopped == wanted.stopped);
+    CHECK(p.frames_left == wanted.frames_left && p.pass_length == wanted.pass_length);
+}
+
+/* 16 by a number above 16,777,216, before Stopped, whatever the track does. */
+static void expect_most_frames(cart *c)
+{
+    static const marks above[] = {
+        { 0, 16777217, 0 }, { 0, 0, 16777217 }, { 1, 16777217, 16777216 }, { 255, 16777216, 16777217 },
+        { 0, UINT32_MAX, UINT32_MAX }, { 0, 0x80000000, 5 }, { 0, 5, 0x80000000 },
+    };
+    marks most = { 1, 16777216, 16777216 };
+    for (size_t i = 0; i < sizeof above / sizeof above[0]; i++)
+        expect_marks(c, above[i], REF_BAD_RECORD, REF_REFUSED, above[i]);
+    expect_marks(c, most, 0, REF_STOPPED, most);
+}
+
+static void test_frames_of_record(void)
+{
+    cart *c = new_cart();
+    use_channel(c, REF_TRIANGLE, "B0 2A 00");
+    expect_most_frames(c);
+    expect_marks(c, (marks){ 0, 16777216, 16777216 }, 0, REF_EVENTS, (marks){ 0, 16777215, 16777216 });
+    expect_marks(c, (marks){ 0, 9, 3 }, 0, REF_EVENTS, (marks){ 0, 8, 3 });
+    expect_marks(c, (marks){ 0, 1, 3 }, 0, REF_EVENTS, (marks){ 0, 0, 3 });
+    expect_marks(c, (marks){ 0, 0, 3 }, 0, REF_EVENTS, (marks){ 0, 0, 3 });
+    expect_marks(c, (marks){ 7, 9, 3 }, 0, REF_STOPPED, (marks){ 7, 9, 3 });
+    use_channel(c, REF_TRIANGLE, "00");
+    expect_most_frames(c);
+    expect_marks(c, (marks){ 0, 16777216, 16777216 }, 0, REF_END, (marks){ 1, 0, 0 });
+    expect_marks(c, (marks){ 0, 9, 3 }, 0, REF_END, (marks){ 1, 0, 0 });
+    cart_header(c)[HEADER_RESTART] = 1;
+    expect_most_frames(c);
+    expect_marks(c, (marks){ 0, 0, 16777216 }, 0, REF_END, (marks){ 0, 16777216, 16777216 });
+    expect_marks(c, (marks){ 0, 9, 3 }, 0, REF_END, (marks){ 0, 3, 3 });
+    expect_marks(c, (marks){ 0, 9, 0 }, 0, REF_END, (marks){ 0, 0, 0 });
+    use_channel(c, REF_TRIANGLE, "A0");
+    expect_most_frames(c);
+    expect_marks(c, (marks){ 0, 9, 3 }, REF_NO_COMMAND, REF_REFUSED, (marks){ 0, 9, 3 });
     free(c);
 }
 
@@ -344,6 +394,7 @@ void test_refusals(void)
     test_header();
     test_envelope_search();
     test_records();
+    test_frames_of_record();
     test_unused_part();
     test_commands();
     test_read_until();

@@ -59,6 +59,7 @@ static void test_one_note(void)
         CHECK(part_is(answer, REF_TRIANGLE, REF_NOTE, n == 0, 0x15, period_of_key(0x15), 20));
         CHECK(part_is(answer, 0, REF_OFF, 0, 0, 0, 0));
         CHECK(p.channels[REF_TRIANGLE].left == 5 - n);
+        CHECK(p.frames_left == 5 - n && p.pass_length == 6);
     }
     CHECK(frame_after(c, 6, &p, answer) == 0);
     CHECK(answer[0] == REF_END && answer[1 + REF_TRIANGLE] == 1 && place_is(answer, 0, 0, 0));
@@ -74,17 +75,43 @@ static void test_restart(void)
 {
     cart *c = new_cart();
     ref_player p;
-    ref_player fresh = {0};
+    ref_player again = { .frames_left = 6, .pass_length = 6 };
     uint32_t answer[REF_ANSWER_WORDS];
     use_channel(c, REF_TRIANGLE, "B0 2A 00");
     cart_header(c)[HEADER_RESTART] = 0xFF;
     CHECK(frame_after(c, 6, &p, answer) == 0);
     CHECK(answer[0] == REF_END);
-    CHECK(same_record(&p, &fresh));
+    CHECK(same_record(&p, &again));
     CHECK(frame_after(c, 7, &p, answer) == 0);
     CHECK(answer[0] == REF_EVENTS);
     CHECK(part_is(answer, REF_TRIANGLE, REF_NOTE, 1, 0x15, period_of_key(0x15), 20));
     free(c);
+}
+
+/* What each of nine frames shows of the frames left. */
+static void expect_left(const char *hex, uint8_t restart, const uint32_t wanted[9])
+{
+    cart *c = new_cart();
+    ref_player p;
+    uint32_t answer[REF_ANSWER_WORDS];
+    use_channel(c, REF_TRIANGLE, hex);
+    cart_header(c)[HEADER_RESTART] = restart;
+    CHECK(ref_start(&p, c->bytes, REF_BANK_SIZE, &c->places, 0) == 0);
+    for (int n = 0; n < 9; n++) {
+        ref_frame(&p, c->bytes, REF_BANK_SIZE, &c->places, 0, answer);
+        CHECK(answer[REF_ANSWER_LEFT] == wanted[n]);
+    }
+    free(c);
+}
+
+static void test_frames_left(void)
+{
+    expect_left("B0 2A 00", 0, (uint32_t[9]){ 6, 5, 4, 3, 2, 1, 0, 0, 0 });
+    expect_left("B0 2A 00", 1, (uint32_t[9]){ 6, 5, 4, 3, 2, 1, 0, 6, 5 });
+    expect_left("B0 2A A0", 1, (uint32_t[9]){ 6, 5, 4, 3, 2, 1, 0, 0, 0 });
+    expect_left("FF 00", 1, (uint32_t[9]){ 0 });
+    expect_left("2A 00", 1, (uint32_t[9]){ 0 });
+    expect_left("C3 B0 2A 02 FF 00", 0, (uint32_t[9]){ 36, 35, 34, 33, 32, 31, 30, 29, 28 });
 }
 
 /* Two commands in frames 0, 12, 24 and 36, one where the rest begins. */
@@ -204,7 +231,7 @@ static void test_many_commands(void)
     free(c);
 }
 
-/* The longest: C0, B0 2A, 251 times 2A, FF 00, all lengths 255. */
+/* The longest: C0, B0 2A, 251 times 2A, FF 00, all lengths 255. Then one note more in place of the end. */
 static void test_longest(void)
 {
     cart *c = new_cart();
@@ -220,6 +247,9 @@ static void test_longest(void)
     CHECK(line.frames == 16450560 && line.number == 0 && line.offset == 255);
     CHECK(line.commands == 1 + 256 * 253 + 1);
     expect_pass(c, 16450560, REF_TRIANGLE);
+    data[254] = 0x2A;
+    data[255] = 0xFF;
+    expect_fault(c, REF_PAST_DATA, REF_TRIANGLE, 256, 16515840, 0x9500);
     free(c);
 }
 
@@ -228,6 +258,7 @@ void test_samples(void)
     test_verdicts();
     test_one_note();
     test_restart();
+    test_frames_left();
     test_loop_counts();
     test_key_zero();
     test_same_frame();

@@ -4,6 +4,9 @@
 #include <stdlib.h>
 #include <string.h>
 
+/* A longer track is not run to its stop once more. */
+#define LONGEST_COUNTDOWN 10000u
+
 const uint8_t published_lengths[REF_LENGTH_COUNT] = {
     4,  8,  16, 32, 64, 24, 48, 12, 11, 5,   2,  6,  12, 24, 48, 96,
     36, 72, 18, 16, 8,  3,  16, 7,  14, 28,  56, 112, 42, 84, 21, 18,
@@ -106,7 +109,7 @@ int same_record(const ref_player *a, const ref_player *b)
     for (int i = 0; i < REF_CHANNELS; i++)
         if (!same_channel(&a->channels[i], &b->channels[i]))
             return 0;
-    return a->stopped == b->stopped;
+    return a->stopped == b->stopped && a->frames_left == b->frames_left && a->pass_length == b->pass_length;
 }
 
 int same_verdict(const ref_verdict *a, const ref_verdict *b)
@@ -115,12 +118,39 @@ int same_verdict(const ref_verdict *a, const ref_verdict *b)
         && a->frame == b->frame && a->address == b->address;
 }
 
+/* What frame n of a run shows. */
+static uint64_t left_in_frame(cart *c, const ref_verdict *first_stop, uint64_t n)
+{
+    if (first_stop->number == 0 && cart_header(c)[HEADER_RESTART] != 0)
+        return first_stop->frame - n % (first_stop->frame + 1);
+    return n < first_stop->frame ? first_stop->frame - n : 0;
+}
+
+void expect_countdown(cart *c, size_t len, uint32_t track)
+{
+    ref_player p;
+    uint32_t answer[REF_ANSWER_WORDS];
+    ref_verdict first_stop = ref_check_by_frames(c->bytes, len, &c->places, track);
+    ref_start(&p, c->bytes, len, &c->places, track);
+    CHECK(p.frames_left == first_stop.frame && p.pass_length == first_stop.frame);
+    for (uint64_t n = 0; n < 2 * (first_stop.frame + 1) + 3; n++) {
+        ref_frame(&p, c->bytes, len, &c->places, track, answer);
+        CHECK(answer[REF_ANSWER_LEFT] == left_in_frame(c, &first_stop, n));
+        CHECK((answer[REF_ANSWER_LEFT] == 0) == (answer[0] != REF_EVENTS));
+    }
+}
+
 static void expect_verdict(cart *c, ref_verdict wanted)
 {
+    ref_player p;
     ref_verdict by_frames = ref_check_by_frames(c->bytes, REF_BANK_SIZE, &c->places, 0);
     ref_verdict by_channels = ref_check_by_channels(c->bytes, REF_BANK_SIZE, &c->places, 0);
     CHECK(same_verdict(&by_frames, &wanted));
     CHECK(same_verdict(&by_channels, &wanted));
+    CHECK(ref_start(&p, c->bytes, REF_BANK_SIZE, &c->places, 0) == 0);
+    CHECK(p.frames_left == wanted.frame && p.pass_length == wanted.frame);
+    if (wanted.frame <= LONGEST_COUNTDOWN)
+        expect_countdown(c, REF_BANK_SIZE, 0);
 }
 
 void expect_pass(cart *c, uint64_t frame, uint32_t channel)
@@ -147,6 +177,14 @@ int place_is(const uint32_t *answer, uint32_t channel, uint32_t offset, uint32_t
 {
     return answer[REF_ANSWER_CHANNEL] == channel && answer[REF_ANSWER_OFFSET] == offset
         && answer[REF_ANSWER_ADDRESS] == address;
+}
+
+int tells_only_left(const uint32_t *answer, uint32_t left)
+{
+    for (int i = 1; i < REF_ANSWER_WORDS; i++)
+        if (answer[i] != (i == REF_ANSWER_LEFT ? left : 0))
+            return 0;
+    return 1;
 }
 
 /* A fixed sequence, so that a failure comes again. */

@@ -7,10 +7,10 @@
 #define TRACKS 6u
 #define FRAMES 10u
 
-/* A bar before the counts, before the place, and before each channel's part. */
+/* A bar before the counts, before the place, before the frames left, and before each channel's part. */
 static int after_bar(unsigned i)
 {
-    return i == REF_ANSWER_COUNTS || i == REF_ANSWER_CHANNEL
+    return i == REF_ANSWER_COUNTS || i == REF_ANSWER_CHANNEL || i == REF_ANSWER_LEFT
         || (i >= REF_ANSWER_PARTS && (i - REF_ANSWER_PARTS) % REF_PART_WORDS == 0);
 }
 

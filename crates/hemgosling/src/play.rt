@@ -12,9 +12,9 @@ ghost use mathlib.Core.Path.{_≡_};
 ghost use mathlib.Core.List.{_∷_, _++_};
 ghost use lib.Seq.{sets};
 ghost use Rattle.engine_base.specs.Answer.{answerKind, answerPlace};
-ghost use Rattle.metroid_player.specs.Frame.{startOf, frameOf, toldEvents, toldFramed, AnswerWithin};
+ghost use Rattle.metroid_player.specs.Frame.{frameOf, toldEvents, toldFramed, AnswerWithin};
 ghost use Rattle.hemgosling.specs.Places.{placesOf};
-ghost use Rattle.hemgosling.specs.Play.{Starts, Steps, steppedOf};
+ghost use Rattle.hemgosling.specs.Play.{Starts, Steps, Starting, steppedOf};
 
 // Where the commands read stand in an answer.
 const COUNTS: usize = 1;
@@ -22,8 +22,11 @@ const COUNTS: usize = 1;
 // Where the channel, the offset and the address of a refusal stand.
 const PLACE: usize = 5;
 
+// Where the frames left stand.
+const LEFT: usize = 8;
+
 // Where the words of the first channel stand.
-const EVENTS: usize = 8;
+const EVENTS: usize = 9;
 
 // The words of a channel.
 const EVENT_WORDS: usize = 5;
@@ -49,7 +52,7 @@ fn place_of(answer: Answer) -> [u32; 3]
 
 // The channels' words, in order.
 fn put_events(out: &mut [u32], events: [Event; 4])
-    ensures { λ _. ⌜ now (out .exit) ≡ sets (now (out .entry)) 8 (toldEvents events) ⌝ }
+    ensures { λ _. ⌜ now (out .exit) ≡ sets (now (out .entry)) 9 (toldEvents events) ⌝ }
 {
     let mut i: usize = 0;
     while i < 4 {
@@ -59,14 +62,21 @@ fn put_events(out: &mut [u32], events: [Event; 4])
     }
 }
 
-// The kind of the answer, the commands read, the place and the events.
-fn put_answer(out: &mut [u32], answer: Answer, counts: [u32; 4], events: [Event; 4])
+// The kind of the answer, the commands read, the place, the frames left and the events.
+fn put_answer(
+    out: &mut [u32],
+    answer: Answer,
+    counts: [u32; 4],
+    frames_left: u32,
+    events: [Event; 4],
+)
     requires { ⌜ ((start : ℕ → ℕ) × AnswerWithin start 4 answer) ⌝ }
-    ensures { λ _. ⌜ now (out .exit) ≡ sets (now (out .entry)) 0 (answerKind answer ∷ counts ++ (answerPlace answer ++ toldEvents events)) ⌝ }
+    ensures { λ _. ⌜ now (out .exit) ≡ sets (now (out .entry)) 0 (answerKind answer ∷ counts ++ (answerPlace answer ++ («frames_left» ∷ toldEvents events))) ⌝ }
 {
     buffer::fill32(out, 0, &[answer::kind_of(answer)]);
     buffer::fill32(out, COUNTS, &counts);
     buffer::fill32(out, PLACE, &place_of(answer));
+    buffer::fill32(out, LEFT, &[frames_left]);
     put_events(out, events);
 }
 
@@ -106,7 +116,7 @@ fn frame_into(
     let events = framed.events;
     let next = framed.player;
     let number = answer::number_of(told);
-    put_answer(answer, told, counts, events);
+    put_answer(answer, told, counts, framed.frames_left, events);
     Stepped {
         number,
         player: next,
@@ -126,7 +136,7 @@ fn started_of(
     default1: u8,
     default2: u8,
 ) -> Started
-    ensures { λ r. ⌜ r ≡ startOf (now (bank .entry)) (placesOf «header_offsets» «header_block» «note_lengths» «key_periods» «noise_presets» «envelope_addresses» «track_count» default1 default2) track ⌝ }
+    ensures { λ r. ⌜ Starting (now (bank .entry)) (placesOf «header_offsets» «header_block» «note_lengths» «key_periods» «noise_presets» «envelope_addresses» «track_count» default1 default2) track r ⌝ }
 {
     let found = places::places_of(
         header_offsets,

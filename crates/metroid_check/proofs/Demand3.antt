@@ -1,20 +1,25 @@
 -- Demand 3 holds of the definition's verdict, and what follows from it in the paper's words.
-use Prim.Native.Nat.{ℕ, zero, suc, _+_}
+use Prim.Native.Nat.{ℕ, zero, suc, _+_, _*_, _≤_}
 use mathlib.Core.Bool.{Bool, true, false}
 use mathlib.Core.List.{List, _∷_, map}
 use mathlib.Core.Path.{_≡_, refl, ap, _∙_}
 use native.Mathlib.Nat.{zero-add}
+use native.Mathlib.Omega.{arith}
 use borrow.Author.Tests.{eq-eqb, ne-eqb, eqb-true, eqb-false}
 use lib.Dec.{eqb}
-use Rattle.engine_base.proofs.Picks.{answers}
+use Rattle.engine_base.specs.Bytes.{AllBytes}
+use Rattle.metroid_format.specs.Command.{data-limit}
 use Rattle.metroid_format.specs.Header.{openTrack}
+use Rattle.metroid_format.specs.Timeline.{frames-a-byte, soonestOf}
+use Rattle.metroid_format.proofs.timeline.FirstStop.{StopWithin, soonest-within}
 use Rattle.metroid_format.specs.declared.bank.Places.{Places}
 use Rattle.metroid_format.specs.declared.timeline.Finish.{Finish}
-use Rattle.metroid_player.specs.Record.{freshPlayer}
+use Rattle.metroid_player.specs.Record.{freshPlayer, most-frames}
 use Rattle.metroid_player.specs.Counts.{most-commands}
 use Rattle.metroid_player.specs.Frame.{startOf, frameOf, frameOfTrack}
 use Rattle.metroid_player.specs.declared.record.Player.{Player}
 use Rattle.metroid_player.proofs.frame.Counts.{none-most}
+use Rattle.metroid_check.proofs.ahead.Foreseen.{Least}
 use Rattle.metroid_check.proofs.ahead.Starting.{aheadOf, starts, opened-frame, unopened-frame}
 use Rattle.metroid_check.specs.Run.{
   nothing,
@@ -24,8 +29,8 @@ use Rattle.metroid_check.specs.Run.{
   ReadAtMost,
 }
 use Rattle.metroid_check.specs.Verdict.{verdictBy, verdictOf}
-use Rattle.metroid_check.specs.Demand3.{endForeseen, refusalForeseen, Demand3, Foreseen}
-use Rattle.metroid_check.specs.declared.verdict.Soonest.{Soonest}
+use Rattle.metroid_check.specs.Demand3.{endForeseen, refusalForeseen, Demand3}
+use Rattle.metroid_format.specs.declared.timeline.Soonest.{Soonest}
 use Rattle.metroid_check.specs.declared.verdict.Verdict.{Verdict}
 use Rattle.metroid_check.proofs.verdict.Laws.{opened-verdict, unopened-verdict}
 use Rattle.metroid_check.proofs.Found.{found, FoundSome, least, found-some}
@@ -39,7 +44,7 @@ from-start n m i (Finish.Refused number at address) = (refl, rw zero-add)
 
 module _ (bank : List ℕ) (places : Places) (track : ℕ) where
   -- every frame opens the same track
-  opened-frames : openTrack bank places track .number ≡ 0 → (n : ℕ) (player : Player) →
+  pub opened-frames : openTrack bank places track .number ≡ 0 → (n : ℕ) (player : Player) →
       framesFrom (frameOf bank places track) n player ≡ framesFrom (frameOfTrack bank (openTrack bank places track .track)) n player
   unfolding framesFrom
   opened-frames e zero player = refl
@@ -60,42 +65,52 @@ module _ (bank : List ℕ) (places : Places) (track : ℕ) where
   shut-commands e (suc n) player =
       rw (unopened-frame bank places track player e) (none-most most-commands, shut-commands e n player)
 
-  shut-demand : (openTrack bank places track .number ≡ 0 → ⊥) → (n : ℕ) →
-      Demand3 bank places track n (Verdict.Refused (openTrack bank places track .number))
-  unfolding runOf startOf
-  shut-demand e n = record {
-    end = shut-end e n 0 freshPlayer;
-    refusal = rw (ne-eqb _ _ e);
-    commands = shut-commands e n freshPlayer;
-  }
+  -- what a verdict comes from: of an opened track the least of the stops ahead, told, of another start's number
+  pub data Comes : Verdict → Type 0 where
+    opened : {n i : ℕ} {finish : Finish} → openTrack bank places track .number ≡ 0 →
+        soonestOf bank (openTrack bank places track .track) ≡ Soonest.Stop n i finish → n ≤ most-frames →
+        Least (map (aheadOf bank (openTrack bank places track .track)) (openTrack bank places track .track .voices)) n i finish →
+        Comes (verdictBy (Soonest.Stop n i finish))
+    shut : (openTrack bank places track .number ≡ 0 → ⊥) → Comes (Verdict.Refused (openTrack bank places track .number))
 
-  open-demand : openTrack bank places track .number ≡ 0 → {soonest : Soonest} →
+  comes-opened : openTrack bank places track .number ≡ 0 → {soonest : Soonest} →
+      soonestOf bank (openTrack bank places track .track) ≡ soonest → StopWithin (frames-a-byte * data-limit) soonest →
       FoundSome (map (aheadOf bank (openTrack bank places track .track)) (openTrack bank places track .track .voices)) soonest →
-      (n : ℕ) → Demand3 bank places track n (verdictBy soonest)
-  unfolding runOf startOf
-  open-demand e (least {n = m} {i} {finish} l) n =
-      let opened = openTrack bank places track .track in
-      let s = starts bank places track e in
-      let all = shows bank opened s i l n 0 freshPlayer (stopping m) (going (s .run) l) in
-      let (end, refusal) = from-start n m i finish in
-      record {
-        end = rw (opened-frames e n freshPlayer) (all .end ∙ end);
-        refusal = rw (eq-eqb _ _ e, opened-frames e n freshPlayer) (all .refusal ∙ refusal);
-        commands = rw (opened-frames e n freshPlayer) (all .commands);
-      }
+      Comes (verdictBy soonest)
+  comes-opened e q within (least l) = opened e q (omega arith) l
 
-  pub demand3 : (n : ℕ) → Demand3 bank places track n (verdictOf bank places track)
-  demand3 n = one (eqb (openTrack bank places track .number) 0) refl
+  -- in a bank of bytes
+  pub comes : AllBytes bank → Comes (verdictOf bank places track)
+  comes bytes = one (eqb (openTrack bank places track .number) 0) refl
     where
-      one : (opens : Bool) → eqb (openTrack bank places track .number) 0 ≡ opens → Demand3 bank places track n (verdictOf bank places track)
+      one : (opens : Bool) → eqb (openTrack bank places track .number) 0 ≡ opens → Comes (verdictOf bank places track)
       one true t =
           let e = eqb-true (openTrack bank places track .number) 0 t in
-          let opened = openTrack bank places track .track in
+          let track′ = openTrack bank places track .track in
           rw (← (opened-verdict bank places track _ refl e _ refl _ refl))
-          (open-demand e (found-some (starts bank places track e .some) (found bank opened 0 (opened .voices))) n)
+          (comes-opened e {soonest = soonestOf bank track′} refl (soonest-within bank track′ bytes)
+          (found-some (starts bank places track e .some) (found bank track′ 0 (track′ .voices))))
       one false t =
           let e = eqb-false (openTrack bank places track .number) 0 t in
-          rw (← (unopened-verdict bank places track _ refl e)) (shut-demand e n)
+          rw (← (unopened-verdict bank places track _ refl e)) (shut e)
 
-  pub foreseen : (verdict : Verdict) → verdict ≡ verdictOf bank places track → Foreseen bank places track verdict
-  foreseen verdict e = record { answer = answers _ _ _ e; runs = λ n. rw e (demand3 n) }
+  -- the record that start gives has the length of a pass
+  by-verdict : {verdict : Verdict} → Comes verdict → (n : ℕ) → Demand3 bank places track n verdict
+  unfolding runOf startOf
+  by-verdict (opened {n = m} {i} {finish} e q small l) n =
+      let s = starts bank places track e in
+      let all = shows bank _ s i m small l n 0 (freshPlayer m) (stopping m) (going (s .run m small) l refl refl) in
+      let (end, refusal) = from-start n m i finish in
+      record {
+        end = rw (eq-eqb _ _ e, q, opened-frames e n (freshPlayer m)) (all .end ∙ end);
+        refusal = rw (eq-eqb _ _ e, q, opened-frames e n (freshPlayer m)) (all .refusal ∙ refusal);
+        commands = rw (eq-eqb _ _ e, q, opened-frames e n (freshPlayer m)) (all .commands);
+      }
+  by-verdict (shut e) n = record {
+    end = shut-end e n 0 _;
+    refusal = rw (ne-eqb _ _ e);
+    commands = shut-commands e n _;
+  }
+
+  pub demand3 : AllBytes bank → (n : ℕ) → Demand3 bank places track n (verdictOf bank places track)
+  demand3 bytes n = by-verdict (comes bytes) n

@@ -8,7 +8,7 @@ use borrow.Author.Tests.{leb-true, leb-false}
 use lib.Dec.{leb}
 use Rattle.engine_base.specs.Pick.{pick}
 use Rattle.engine_base.proofs.Picks.{by-test}
-use Rattle.metroid_format.specs.Timeline.{timelineOf}
+use Rattle.metroid_format.specs.Timeline.{timelineOf, stopOf, sooner, soonestFrom}
 use Rattle.metroid_format.specs.declared.header.Voice.{Voice}
 use Rattle.metroid_format.specs.declared.header.Track.{Track}
 use Rattle.metroid_format.specs.declared.timeline.Finish.{Finish}
@@ -16,8 +16,7 @@ use Rattle.metroid_format.specs.Channel.{channelSource}
 use Rattle.metroid_check.proofs.ahead.Settling.{Ahead, nothing, stop}
 use Rattle.metroid_check.proofs.ahead.Starting.{SomeStop, aheadOf}
 use Rattle.metroid_check.proofs.ahead.Foreseen.{NoneBefore, Least}
-use Rattle.metroid_check.specs.Verdict.{stopOf, sooner, soonestFrom}
-use Rattle.metroid_check.specs.declared.verdict.Soonest.{Soonest}
+use Rattle.metroid_format.specs.declared.timeline.Soonest.{Soonest}
 
 abbrev AllNothing : List Ahead → Type 0
 AllNothing [] = Unit {0}

@@ -3,3 +3,4 @@ pub mod Found
 pub mod Run
 pub mod Demand3
 pub mod Passes
+pub mod Countdown

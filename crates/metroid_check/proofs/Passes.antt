@@ -5,6 +5,7 @@ use mathlib.Core.Path.{_≡_, refl, sym, ap, _∙_}
 use native.Mathlib.Omega.{arith}
 use borrow.Author.Tests.{lt-ltb, le-ltb}
 use lib.Dec.{ltb}
+use Rattle.engine_base.specs.Bytes.{AllBytes}
 use Rattle.engine_base.proofs.Picks.{by-test}
 use Rattle.metroid_format.specs.declared.bank.Places.{Places}
 use Rattle.metroid_check.specs.Run.{nothing, shown, End, ofStart, ofFrame, ofData, runOf, firstEnd, firstRefusal}
@@ -23,7 +24,7 @@ module _ {A : Type 0} (n frame : ℕ) (x : A) where
   unreached : n ≤ frame → ifReached n frame x ≡ nothing
   unreached h = rw (le-ltb _ _ h)
 
-module _ (bank : List ℕ) (places : Places) (track : ℕ) where
+module _ (bank : List ℕ) (bytes : AllBytes bank) (places : Places) (track : ℕ) where
   abbrev pub Passes : Type 0
   Passes = (frame : ℕ) × (channel : ℕ) × (verdictOf bank places track ≡ Verdict.Pass frame channel)
 
@@ -33,11 +34,11 @@ module _ (bank : List ℕ) (places : Places) (track : ℕ) where
 
   shows-end : {verdict : Verdict} → verdictOf bank places track ≡ verdict → (n : ℕ) →
       firstEnd (runOf bank places track n) ≡ endForeseen n verdict
-  shows-end e n = demand3 bank places track n .end ∙ ap (endForeseen n) e
+  shows-end e n = demand3 bank places track bytes n .end ∙ ap (endForeseen n) e
 
   shows-refusal : {verdict : Verdict} → verdictOf bank places track ≡ verdict → (n : ℕ) →
       firstRefusal (runOf bank places track n) ≡ refusalForeseen n verdict
-  shows-refusal e n = demand3 bank places track n .refusal ∙ ap (refusalForeseen n) e
+  shows-refusal e n = demand3 bank places track bytes n .refusal ∙ ap (refusalForeseen n) e
 
   -- a track that does not pass is refused, whatever the length or in every run that reaches the fault's frame
   pub start-refused : {number : ℕ} → verdictOf bank places track ≡ Verdict.Refused number → (n : ℕ) →
@@ -78,7 +79,7 @@ module _ (bank : List ℕ) (places : Places) (track : ℕ) where
 
   -- a run's first refusal in a frame is one of 10 to 15: 1 to 9 are start's, and the records of a run pass 16
   pub frames-fault-only : (n number frame : ℕ) → firstRefusal (runOf bank places track n) ≡ shown (ofFrame number frame) → ⊥
-  frames-fault-only n number frame e = by (verdictOf bank places track) (sym e ∙ demand3 bank places track n .refusal)
+  frames-fault-only n number frame e = by (verdictOf bank places track) (sym e ∙ demand3 bank places track bytes n .refusal)
     where
       by : (verdict : Verdict) → shown (ofFrame number frame) ≡ refusalForeseen n verdict → ⊥
       by (Verdict.Pass at channel) e = shown-not _ (sym e)

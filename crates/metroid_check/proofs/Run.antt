@@ -1,20 +1,21 @@
 -- The frames of an opened track, one after the other: what they show of its stop, before it, at it and after it.
-use Prim.Native.Nat.{ℕ, zero, suc, _+_}
+use Prim.Native.Nat.{ℕ, zero, suc, _+_, _≤_}
 use mathlib.Core.Bool.{Bool, true, false}
 use mathlib.Core.List.{List, [], _∷_, map}
-use mathlib.Core.Path.{_≡_, refl, _∙_}
+use mathlib.Core.Path.{_≡_, refl, ap, subst, _∙_}
 use native.Mathlib.Omega.{arith}
 use native.Mathlib.Nat.{add-zero}
 use lib.Dec.{leb·zero, leb·suc-zero, leb·suc-suc}
 use Rattle.metroid_format.specs.declared.header.Track.{Track}
 use Rattle.metroid_format.specs.declared.timeline.Finish.{Finish}
-use Rattle.metroid_player.specs.Record.{endedPlayer}
+use Rattle.metroid_player.specs.Record.{endedPlayer, stoppedPlayer, most-frames}
 use Rattle.metroid_player.specs.Counts.{most-commands, AtMost}
 use Rattle.metroid_player.specs.Frame.{frameOfTrack}
 use Rattle.metroid_player.specs.declared.record.Player.{Player}
 use Rattle.engine_base.specs.declared.answer.Answer.{Answer}
 use Rattle.metroid_player.specs.declared.frame.Framed.{Framed}
 use Rattle.metroid_player.proofs.frame.Counts.{none-most}
+use Rattle.metroid_player.proofs.frame.Left.{LeftBy, track-left}
 use Rattle.metroid_check.proofs.ahead.Settling.{Ahead}
 use Rattle.metroid_check.proofs.ahead.Framing.{InRun, run-counts}
 use Rattle.metroid_check.proofs.ahead.Starting.{aheadOf, Starts, stays-stopped}
@@ -38,52 +39,56 @@ refusalAhead k n i (Finish.Refused number at address) (stopping m) = ifReached n
 refusalAhead k n i (Finish.Refused number at address) stopped = nothing
 
 module _ (bank : List ℕ) (track : Track) where
-  -- where a run stands that stops in the i-th channel
-  pub data Stands (i : ℕ) : Player → Finish → Outlook → Type 0 where
+  -- where a run stands that stops in the i-th channel, and whose passes have that length
+  pub data Stands (i length : ℕ) : Player → Finish → Outlook → Type 0 where
     going : {player : Player} {now : List Ahead} {n : ℕ} {finish : Finish} → InRun bank track player now → Least now n i finish →
-        Stands i player finish (stopping n)
-    over : Stands i (endedPlayer false) Finish.End stopped
+        player .«frames_left» ≡ n → player .«pass_length» ≡ length → Stands i length player finish (stopping n)
+    over : track .restart ≡ false → Stands i length stoppedPlayer Finish.End stopped
 
   -- a frame, and where the run stands after it
-  data Steps (i : ℕ) (f : Framed) : Finish → Outlook → Type 0 where
-    plays : {n : ℕ} {finish : Finish} → f .answer ≡ Answer.Events → Stands i (f .player) finish (stopping n) →
-        Steps i f finish (stopping (suc n))
-    ends : {after : Outlook} → f .answer ≡ Answer.End → lastCounted (f .counts) ≡ i → Stands i (f .player) Finish.End after →
-        Steps i f Finish.End (stopping 0)
+  pub data Steps (i length : ℕ) (f : Framed) : Finish → Outlook → Type 0 where
+    plays : {n : ℕ} {finish : Finish} → f .answer ≡ Answer.Events → Stands i length (f .player) finish (stopping n) →
+        Steps i length f finish (stopping (suc n))
+    restarts : track .restart ≡ true → f .answer ≡ Answer.End → lastCounted (f .counts) ≡ i →
+        Stands i length (f .player) Finish.End (stopping length) → Steps i length f Finish.End (stopping 0)
+    ends : track .restart ≡ false → f .answer ≡ Answer.End → lastCounted (f .counts) ≡ i →
+        Stands i length (f .player) Finish.End stopped → Steps i length f Finish.End (stopping 0)
     faults : {number at address : ℕ} → f .answer ≡ Answer.Fault number i at address →
-        Stands i (f .player) (Finish.Refused number at address) (stopping 0) → Steps i f (Finish.Refused number at address) (stopping 0)
-    stays : f .answer ≡ Answer.Stopped → Stands i (f .player) Finish.End stopped → Steps i f Finish.End stopped
+        Stands i length (f .player) (Finish.Refused number at address) (stopping 0) →
+        Steps i length f (Finish.Refused number at address) (stopping 0)
+    stays : f .answer ≡ Answer.Stopped → Stands i length (f .player) Finish.End stopped → Steps i length f Finish.End stopped
 
-  step-counts : Starts bank track → {i : ℕ} {player : Player} {finish : Finish} {o : Outlook} → Stands i player finish o →
+  step-counts : Starts bank track → {i length : ℕ} {player : Player} {finish : Finish} {o : Outlook} → Stands i length player finish o →
       AtMost most-commands (frameOfTrack bank track player .counts)
-  step-counts s (going r l) = run-counts bank track r
-  step-counts s over = rw (stays-stopped s) (none-most most-commands)
+  step-counts s (going r l left length) = run-counts bank track r
+  step-counts s (over e) = rw (stays-stopped s) (none-most most-commands)
 
-  module _ (s : Starts bank track) {n₀ i : ℕ} where
+  module _ (s : Starts bank track) {n₀ i : ℕ} (small : n₀ ≤ most-frames) where
     -- a restart begins anew, so that the same end is ahead
-    step-end : (f : Framed) (restart : Bool) → Least (map (aheadOf bank track) (track .voices)) n₀ i Finish.End →
-        f .answer ≡ Answer.End → lastCounted (f .counts) ≡ i → f .player ≡ endedPlayer restart →
-        Steps i f Finish.End (stopping 0)
-    step-end f true l a c p = ends {after = stopping n₀} a c (rw p (going (s .run) l))
-    step-end f false l a c p = ends {after = stopped} a c (rw p over)
+    step-end : (f : Framed) (restart : Bool) → track .restart ≡ restart → Least (map (aheadOf bank track) (track .voices)) n₀ i Finish.End →
+        f .answer ≡ Answer.End → lastCounted (f .counts) ≡ i → f .player ≡ endedPlayer restart n₀ →
+        Steps i n₀ f Finish.End (stopping 0)
+    step-end f true e l a c p = restarts e a c (rw p (going (s .run n₀ small) l refl refl))
+    step-end f false e l a c p = ends e a c (rw p (over e))
 
     step-going : (player : Player) {now : List Ahead} (n : ℕ) (finish : Finish) →
         Least (map (aheadOf bank track) (track .voices)) n₀ i finish → InRun bank track player now → Least now n i finish →
-        Steps i (frameOfTrack bank track player) finish (stopping n)
-    step-going player (suc n) finish l₀ r l =
+        player .«frames_left» ≡ n → player .«pass_length» ≡ n₀ → Steps i n₀ (frameOfTrack bank track player) finish (stopping n)
+    step-going player (suc n) finish l₀ r l left length =
         let (a, then, r′, l′) = plays-before bank track (s .whole) r l in
-        plays a (going r′ l′)
-    step-going player zero Finish.End l₀ r l =
+        let (less, same) = subst (LeftBy track player (frameOfTrack bank track player .player)) a (track-left bank track player .1) in
+        plays a (going r′ l′ (omega (arith, less, left)) (same ∙ length))
+    step-going player zero Finish.End l₀ r l left length =
         let (a, c, p) = stops-at bank track (s .whole) r l in
-        step-end _ (track .restart) l₀ a c p
-    step-going player zero (Finish.Refused number at address) l₀ r l =
+        step-end _ (track .restart) refl l₀ a c (p ∙ ap (endedPlayer (track .restart)) length)
+    step-going player zero (Finish.Refused number at address) l₀ r l left length =
         let (a, p) = stops-at bank track (s .whole) r l in
-        faults a (rw p (going r l))
+        faults a (rw p (going r l left length))
 
-    step : {player : Player} {finish : Finish} {o : Outlook} → Least (map (aheadOf bank track) (track .voices)) n₀ i finish →
-        Stands i player finish o → Steps i (frameOfTrack bank track player) finish o
-    step l₀ (going {player} {n} {finish} r l) = step-going player n finish l₀ r l
-    step l₀ over = rw (stays-stopped s) (stays refl over)
+    pub step : {player : Player} {finish : Finish} {o : Outlook} → Least (map (aheadOf bank track) (track .voices)) n₀ i finish →
+        Stands i n₀ player finish o → Steps i n₀ (frameOfTrack bank track player) finish o
+    step l₀ (going {player} {n} {finish} r l left length) = step-going player n finish l₀ r l left length
+    step l₀ (over e) = rw (stays-stopped s) (stays refl (over e))
 
 module _ {A : Type 0} (n m : ℕ) where
   none-reached : (x : A) → nothing ≡ ifReached 0 m x
@@ -150,19 +155,20 @@ module _ (k i : ℕ) where
     unfolding endFrom refusalFrom
     shows-stays a later = record { end = rw a (later .end); refusal = rw a (later .refusal); commands = (counts, later .commands) }
 
-module _ (bank : List ℕ) (track : Track) (s : Starts bank track) (i : ℕ) where
+module _ (bank : List ℕ) (track : Track) (s : Starts bank track) (i n₀ : ℕ) (small : n₀ ≤ most-frames) where
   abbrev ShowsOn : ℕ → ℕ → Finish → Type 0
-  ShowsOn n k finish = (player : Player) (o : Outlook) → Stands bank track i player finish o →
+  ShowsOn n k finish = (player : Player) (o : Outlook) → Stands bank track i n₀ player finish o →
       Shows k n i finish o (framesFrom (frameOfTrack bank track) n player)
 
   shows-step : (n k : ℕ) {finish : Finish} {o : Outlook} (f : Framed) → ShowsOn n (k + 1) finish → AtMost most-commands (f .counts) →
-      Steps bank track i f finish o → Shows k (suc n) i finish o (f ∷ framesFrom (frameOfTrack bank track) n (f .player))
+      Steps bank track i n₀ f finish o → Shows k (suc n) i finish o (f ∷ framesFrom (frameOfTrack bank track) n (f .player))
   shows-step n k f later h (plays {n = m} {finish} a after) = shows-plays k i n f _ h m finish a (later _ _ after)
-  shows-step n k f later h (ends a c after) = shows-ends k i n f _ h a c (later _ _ after)
+  shows-step n k f later h (restarts e a c after) = shows-ends k i n f _ h a c (later _ _ after)
+  shows-step n k f later h (ends e a c after) = shows-ends k i n f _ h a c (later _ _ after)
   shows-step n k f later h (faults a after) = shows-faults k i n f _ h a (later _ _ after)
   shows-step n k f later h (stays a after) = shows-stays k i n f _ h a (later _ _ after)
 
-  pub shows : {n₀ : ℕ} {finish : Finish} → Least (map (aheadOf bank track) (track .voices)) n₀ i finish → (n k : ℕ) → ShowsOn n k finish
+  pub shows : {finish : Finish} → Least (map (aheadOf bank track) (track .voices)) n₀ i finish → (n k : ℕ) → ShowsOn n k finish
   unfolding framesFrom
   shows {finish} l₀ zero k player o st = shows-none k i finish o
-  shows l₀ (suc n) k player o st = shows-step n k _ (shows l₀ n (k + 1)) (step-counts bank track s st) (step bank track s l₀ st)
+  shows l₀ (suc n) k player o st = shows-step n k _ (shows l₀ n (k + 1)) (step-counts bank track s st) (step bank track s small l₀ st)

@@ -20,6 +20,7 @@ use Rattle.metroid_check.specs.Run.{
   firstRefusal,
   ReadAtMost,
 }
+use Rattle.metroid_check.specs.Countdown.{Countdown}
 use Rattle.metroid_check.specs.Verdict.{verdictOf, toldVerdict}
 use Rattle.metroid_check.specs.declared.verdict.Verdict.{Verdict}
 
@@ -45,7 +46,8 @@ pub record Demand3 (bank : List ℕ) (places : Places) (track n : ℕ) (verdict 
   pub refusal : firstRefusal (runOf bank places track n) ≡ refusalForeseen n verdict
   pub commands : ReadAtMost most-commands (runOf bank places track n .frames)
 
--- what the check owes: the verdict of the definition, and what it says of a run of any length
+-- what the check owes: the verdict of the definition, and what it says of a run of any length, of its frames left too
 pub record Foreseen (bank : List ℕ) (places : Places) (track : ℕ) (verdict : Verdict) : Type 0 where
   pub answer : Answers toldVerdict verdict (verdictOf bank places track)
   pub runs : (n : ℕ) → Demand3 bank places track n verdict
+  pub countdown : (n : ℕ) → Countdown bank places track n verdict

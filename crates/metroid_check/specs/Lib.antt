@@ -1,3 +1,4 @@
 pub mod Verdict
 pub mod Run
+pub mod Countdown
 pub mod Demand3

@@ -1,39 +1,19 @@
--- The check: the least stop of the used channels, by frame and then by channel.
+-- The check: the first stop of a track, told.
 use Prim.Native.Nat.{ℕ, _+_, _<_, _≤_, min}
 use mathlib.Core.List.{List, [], _∷_}
 use mathlib.Core.Path.{_≡_}
-use lib.Dec.{leb, eqb}
+use lib.Dec.{eqb}
 use Rattle.engine_base.specs.Address.{bank-end}
 use Rattle.engine_base.specs.Pick.{pick}
 use Rattle.engine_base.specs.Told.{Told}
 use Rattle.engine_base.specs.Refusal.{no-channel, past-data, Unopened, FaultAt}
 use Rattle.metroid_format.specs.Command.{data-limit}
 use Rattle.metroid_format.specs.Header.{openTrack}
-use Rattle.metroid_format.specs.Timeline.{timelineOf}
+use Rattle.metroid_format.specs.Timeline.{soonestOf}
 use Rattle.metroid_format.specs.declared.bank.Places.{Places}
-use Rattle.metroid_format.specs.declared.header.Voice.{Voice}
-use Rattle.metroid_format.specs.declared.header.Track.{Track}
 use Rattle.metroid_format.specs.declared.timeline.Finish.{Finish}
-use Rattle.metroid_format.specs.Channel.{channelSource}
-use Rattle.metroid_check.specs.declared.verdict.Soonest.{Soonest}
+use Rattle.metroid_format.specs.declared.timeline.Soonest.{Soonest}
 use Rattle.metroid_check.specs.declared.verdict.Verdict.{Verdict}
-
--- the i-th channel by itself
-unfoldable pub stopOf : List ℕ → Track → ℕ → Voice → Soonest
-stopOf bank track i voice =
-    pick (voice .used)
-    (Soonest.Stop (timelineOf (channelSource bank track voice) .frames) i (timelineOf (channelSource bank track voice) .finish))
-    Soonest.Nothing
-
--- in one frame the channel that goes first stops it
-abbrev pub sooner : Soonest → Soonest → Soonest
-sooner Soonest.Nothing other = other
-sooner (Soonest.Stop m i finish) Soonest.Nothing = Soonest.Stop m i finish
-sooner (Soonest.Stop m i finish) (Soonest.Stop n j other) = pick (leb m n) (Soonest.Stop m i finish) (Soonest.Stop n j other)
-
-unfoldable pub soonestFrom : List ℕ → Track → ℕ → List Voice → Soonest
-soonestFrom bank track i [] = Soonest.Nothing
-soonestFrom bank track i (v ∷ vs) = sooner (stopOf bank track i v) (soonestFrom bank track (i + 1) vs)
 
 -- an end passes; some channel of an opened track is used
 abbrev pub verdictBy : Soonest → Verdict
@@ -45,7 +25,7 @@ verdictBy (Soonest.Stop frame channel (Finish.Refused number at address)) = Verd
 unfoldable pub verdictOf : List ℕ → Places → ℕ → Verdict
 verdictOf bank places track =
     pick (eqb (openTrack bank places track .number) 0)
-    (verdictBy (soonestFrom bank (openTrack bank places track .track) 0 (openTrack bank places track .track .voices)))
+    (verdictBy (soonestOf bank (openTrack bank places track .track)))
     (Verdict.Refused (openTrack bank places track .number))
 
 -- 0, the frame and the channel; or the number, and for 10 to 15 the channel, the offset, the frame and the address

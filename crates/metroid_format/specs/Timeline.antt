@@ -1,15 +1,17 @@
--- A channel by itself, from its start to its own end or first fault.
+-- A channel by itself, from its start to its own end or first fault; and the least stop of the used channels.
 use Prim.Native.Nat.{ℕ, zero, suc, _+_, _*_, _≤_}
 use mathlib.Core.Bool.{Bool}
-use mathlib.Core.List.{[], _∷_}
+use mathlib.Core.List.{List, [], _∷_}
 use mathlib.Core.Path.{_≡_}
-use lib.Dec.{eqb}
+use lib.Dec.{leb, eqb}
 use lib.ListN.{length}
 use Rattle.engine_base.specs.Pick.{pick}
 use Rattle.engine_base.specs.Told.{Told, Answers}
-use Rattle.engine_base.specs.Refusal.{past-data}
+use Rattle.engine_base.specs.Refusal.{no-channel, past-data}
 use Rattle.metroid_format.specs.Command.{data-limit}
-use Rattle.metroid_format.specs.Channel.{Source, addressAt, freshCursor, playedAt, stepOf}
+use Rattle.metroid_format.specs.Channel.{Source, addressAt, channelSource, freshCursor, playedAt, stepOf}
+use Rattle.metroid_format.specs.declared.header.Voice.{Voice}
+use Rattle.metroid_format.specs.declared.header.Track.{Track}
 use Rattle.metroid_format.specs.declared.channel.Cursor.{Cursor}
 use Rattle.metroid_format.specs.declared.channel.Played.{Played}
 use Rattle.metroid_format.specs.declared.channel.Step.{Step}
@@ -17,6 +19,7 @@ use Rattle.metroid_format.specs.declared.timeline.Finish.{Finish}
 use Rattle.metroid_format.specs.declared.timeline.Timeline.{Timeline}
 use Rattle.metroid_format.specs.declared.timeline.Pass.{Pass}
 use Rattle.metroid_format.specs.declared.timeline.Passed.{Passed}
+use Rattle.metroid_format.specs.declared.timeline.Soonest.{Soonest}
 
 -- 255 frames in the first play of a loop, and in each of 255 later ones
 abbrev pub frames-a-byte : ℕ
@@ -113,6 +116,35 @@ pub record Timed (source : Source) (timeline : Timeline) : Type 0 where
   pub answer : Answers toldTimeline timeline (timelineOf source)
   pub walk : Walk source freshCursor (timeline .frames) (timeline .finish)
   pub bound : timeline .frames ≤ frames-a-byte * length (source .bytes)
+
+-- the i-th channel by itself
+unfoldable pub stopOf : List ℕ → Track → ℕ → Voice → Soonest
+stopOf bank track i voice =
+    pick (voice .used)
+    (Soonest.Stop (timelineOf (channelSource bank track voice) .frames) i (timelineOf (channelSource bank track voice) .finish))
+    Soonest.Nothing
+
+-- in one frame the channel that goes first stops it
+abbrev pub sooner : Soonest → Soonest → Soonest
+sooner Soonest.Nothing other = other
+sooner (Soonest.Stop m i finish) Soonest.Nothing = Soonest.Stop m i finish
+sooner (Soonest.Stop m i finish) (Soonest.Stop n j other) = pick (leb m n) (Soonest.Stop m i finish) (Soonest.Stop n j other)
+
+unfoldable pub soonestFrom : List ℕ → Track → ℕ → List Voice → Soonest
+soonestFrom bank track i [] = Soonest.Nothing
+soonestFrom bank track i (v ∷ vs) = sooner (stopOf bank track i v) (soonestFrom bank track (i + 1) vs)
+
+-- the first stop of a track, by frame and then by channel
+abbrev pub soonestOf : List ℕ → Track → Soonest
+soonestOf bank track = soonestFrom bank track 0 (track .voices)
+
+-- the channel, then its timeline; some channel of an opened track is used
+abbrev pub toldSoonest : Soonest → Told
+toldSoonest Soonest.Nothing = record { number = no-channel; values = [] }
+toldSoonest (Soonest.Stop frame i finish) = record {
+  number = toldFinish finish .number;
+  values = i ∷ frame ∷ toldFinish finish .values;
+}
 
 -- Below: only private contracts and laws use these.
 

@@ -1,8 +1,12 @@
-// A channel by itself: how many frames to its own end or first fault. One pass over its bytes, whatever its loops repeat.
+// A channel by itself: how many frames to its own end or first fault, by one pass over its bytes, whatever its loops repeat. And
+// the first stop of a track: the least of its used channels'.
+use crate::bank;
 use crate::channel;
 use crate::channel::Played;
 use crate::command::DATA_LIMIT;
 use crate::command::Kind;
+use crate::header::Track;
+use crate::header::Voice;
 use engine_base::bytes;
 use engine_base::refusal;
 use engine_base::time::Frames;
@@ -11,9 +15,10 @@ ghost use Prim.Native.Nat.{_+_, _*_, _≤_};
 ghost use lib.Dec.{eqb};
 ghost use lib.ListN.{take};
 ghost use Rattle.engine_base.specs.Address.{addressOf};
+ghost use Rattle.engine_base.specs.Told.{Answers};
 ghost use Rattle.metroid_format.specs.Command.{data-limit};
-ghost use Rattle.metroid_format.specs.Channel.{sourceOf, Limited};
-ghost use Rattle.metroid_format.specs.Timeline.{afterLone, passedBy, passedOf, Small, Timed};
+ghost use Rattle.metroid_format.specs.Channel.{sourceOf, channelSource, Limited};
+ghost use Rattle.metroid_format.specs.Timeline.{afterLone, passedBy, passedOf, timelineOf, stopOf, sooner, soonestOf, toldSoonest, Small, Timed};
 
 // How a channel by itself comes to a stop.
 pub enum Finish {
@@ -43,6 +48,13 @@ struct Pass {
 enum Passed {
     On(Pass),
     Finished(Finish),
+}
+
+// The stop that comes first of those looked at.
+pub enum Soonest {
+    Nothing,
+    // the frame, the channel and how it stops
+    Stop(u32, usize, Finish),
 }
 
 // The frames of a loop's later plays.
@@ -149,4 +161,64 @@ pub fn timeline_of(kind: Kind, bytes: &[u8], lengths: &[u8], window: u8, base: u
         frames,
         finish: Finish::Refused(refusal::PAST_DATA, at, channel::address_at(base, at)),
     }
+}
+
+fn channel_timeline(bank: &[u8], track: Track, voice: Voice) -> Timeline
+    ensures { λ r. ⌜ r ≡ timelineOf (channelSource (now (bank .entry)) track voice) ⌝ }
+{
+    let kind = voice.kind;
+    let base = voice.data;
+    let table = track.lengths;
+    timeline_of(
+        kind,
+        bytes::part(bank, base as usize, DATA_LIMIT),
+        bytes::part(bank, table, bank::LENGTHS_SIZE),
+        track.window,
+        base,
+    )
+}
+
+fn stop_of(bank: &[u8], track: Track, i: usize, voice: Voice) -> Soonest
+    ensures { λ r. ⌜ r ≡ stopOf (now (bank .entry)) track i voice ⌝ }
+{
+    let used = voice.used;
+    if used {
+        let timeline = channel_timeline(bank, track, voice);
+        let finish = timeline.finish;
+        return Soonest::Stop(timeline.frames, i, finish);
+    }
+    Soonest::Nothing
+}
+
+// In one frame the channel that goes first stops it.
+fn sooner_of(first: Soonest, other: Soonest) -> Soonest
+    ensures { λ r. ⌜ r ≡ sooner first other ⌝ }
+{
+    match first {
+        Soonest::Nothing => other,
+        Soonest::Stop(m, _, _) => match other {
+            Soonest::Nothing => first,
+            Soonest::Stop(n, _, _) => {
+                if m <= n {
+                    return first;
+                }
+                other
+            }
+        },
+    }
+}
+
+// The least stop of the used channels.
+pub fn soonest_of(bank: &[u8], track: Track) -> Soonest
+    ensures { λ r. ⌜ Answers toldSoonest r (soonestOf (now (bank .entry)) track) ⌝ }
+{
+    let voices = track.voices;
+    let mut soonest = Soonest::Nothing;
+    let mut i: usize = 0;
+    while i < 4 {
+        let voice = voices[i];
+        soonest = sooner_of(soonest, stop_of(bank, track, i, voice));
+        i += 1;
+    }
+    soonest
 }

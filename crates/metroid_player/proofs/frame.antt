@@ -3,3 +3,4 @@ pub mod Counts
 pub mod Kept
 pub mod Place
 pub mod Sounding
+pub mod Left

@@ -12,13 +12,15 @@ use Rattle.engine_base.specs.Refusal.{invalid-record, Unopened, FaultAt}
 use Rattle.metroid_format.specs.Command.{data-limit}
 use Rattle.metroid_format.specs.Header.{openTrack}
 use Rattle.metroid_format.specs.Channel.{channelSource, readUntil}
+use Rattle.metroid_format.specs.Timeline.{soonestOf}
 use Rattle.metroid_format.specs.declared.bank.Places.{Places}
 use Rattle.metroid_format.specs.declared.header.Voice.{Voice}
 use Rattle.metroid_format.specs.declared.header.Track.{Track}
 use Rattle.metroid_format.specs.declared.channel.Cursor.{Cursor}
 use Rattle.metroid_format.specs.declared.channel.Stop.{Stop}
 use Rattle.metroid_format.specs.declared.channel.Until.{Until}
-use Rattle.metroid_player.specs.Record.{four, freshPlayer, endedPlayer, cursorOf, channelsFit}
+use Rattle.metroid_format.specs.declared.timeline.Soonest.{Soonest}
+use Rattle.metroid_player.specs.Record.{four, freshPlayer, endedPlayer, cursorOf, recordFits}
 use Rattle.metroid_player.specs.Event.{offEvent, eventOf, toldEvent}
 use Rattle.metroid_player.specs.declared.record.Channel.{Channel}
 use Rattle.metroid_player.specs.declared.record.Player.{Player}
@@ -106,29 +108,38 @@ settleFrom bank track i (v ∷ vs) [] = settled Answer.Events []
 settleFrom bank track i (v ∷ vs) (c ∷ cs) =
     settleTurn bank track i v (turnOf bank track v c) (settleFrom bank track (i + 1) vs cs)
 
--- no events
-abbrev pub eventless : Answer → List ℕ → Player → Framed
-eventless answer counts player = record { answer = answer; events = four offEvent; counts = counts; player = player }
+-- no events; the frames left are those of the record given, and the next record comes last
+abbrev pub eventless : Answer → List ℕ → ℕ → Player → Framed
+eventless answer counts left player =
+    record { answer = answer; events = four offEvent; counts = counts; «frames_left» = left; player = player }
 
 -- no commands read, and the record as it was given
 abbrev pub unplayed : Answer → Player → Framed
-unplayed answer player = eventless answer (four 0) player
+unplayed answer player = eventless answer (four 0) (player .«frames_left») player
 
 -- a frame broken off counts what the channels reached have read
-abbrev pub brokenOff : Answer → List ℕ → Player → Framed
-brokenOff answer reached player = eventless answer (sets (four 0) 0 reached) player
+abbrev pub brokenOff : Answer → List ℕ → ℕ → Player → Framed
+brokenOff answer reached left player = eventless answer (sets (four 0) 0 reached) left player
 
 abbrev pub framedBy : Track → Player → Settled → Answer → Framed
 framedBy track player s Answer.Events = record {
   answer = Answer.Events;
   events = sets (four offEvent) 0 (s .events);
   counts = sets (four 0) 0 (s .counts);
-  player = record { stopped = player .stopped; channels = sets (player .channels) 0 (s .channels) };
+  «frames_left» = player .«frames_left»;
+  player = record {
+    stopped = player .stopped;
+    channels = sets (player .channels) 0 (s .channels);
+    «frames_left» = player .«frames_left» - 1;
+    «pass_length» = player .«pass_length»;
+  };
 }
-framedBy track player s Answer.End = brokenOff Answer.End (s .counts) (endedPlayer (track .restart))
+framedBy track player s Answer.End =
+    brokenOff Answer.End (s .counts) (player .«frames_left») (endedPlayer (track .restart) (player .«pass_length»))
 framedBy track player s Answer.Stopped = unplayed Answer.Stopped player
 framedBy track player s (Answer.Refused number) = unplayed (Answer.Refused number) player
-framedBy track player s (Answer.Fault number i at address) = brokenOff (Answer.Fault number i at address) (s .counts) player
+framedBy track player s (Answer.Fault number i at address) =
+    brokenOff (Answer.Fault number i at address) (s .counts) (player .«frames_left») player
 
 abbrev pub framed : Track → Player → Settled → Framed
 framed track player s = framedBy track player s (s .answer)
@@ -136,7 +147,7 @@ framed track player s = framedBy track player s (s .answer)
 -- a frame tests 16, then Stopped, then reads
 unfoldable pub frameOfTrack : List ℕ → Track → Player → Framed
 frameOfTrack bank track player =
-    pick (channelsFit (track .voices) (player .channels))
+    pick (recordFits (track .voices) player)
     (pick (eqb (player .stopped) 0)
     (framed track player (settleFrom bank track 0 (track .voices) (player .channels)))
     (unplayed Answer.Stopped player))
@@ -149,18 +160,28 @@ frameOf bank places track player =
     (frameOfTrack bank (openTrack bank places track .track) player)
     (unplayed (Answer.Refused (openTrack bank places track .number)) player)
 
+abbrev pub stopFrame : Soonest → ℕ
+stopFrame Soonest.Nothing = 0
+stopFrame (Soonest.Stop frame i finish) = frame
+
+-- the pass's full length is the frame of the track's first stop; refused, the record is all 0
 unfoldable pub startOf : List ℕ → Places → ℕ → Started
-startOf bank places track = record { number = openTrack bank places track .number; player = freshPlayer }
+startOf bank places track = record {
+  number = openTrack bank places track .number;
+  player =
+      freshPlayer
+      (pick (eqb (openTrack bank places track .number) 0) (stopFrame (soonestOf bank (openTrack bank places track .track))) 0);
+}
 
 abbrev pub toldEvents : List Event → List ℕ
 toldEvents [] = []
 toldEvents (e ∷ es) = toldEvent e ++ toldEvents es
 
--- the kind of answer, the commands read by channel, the place, then five values a channel
+-- the kind of answer, the commands read by channel, the place, the frames left, then five values a channel
 abbrev pub toldFramed : Framed → Told
 toldFramed f = record {
   number = answerNumber (f .answer);
-  values = answerKind (f .answer) ∷ f .counts ++ (answerPlace (f .answer) ++ toldEvents (f .events));
+  values = answerKind (f .answer) ∷ f .counts ++ (answerPlace (f .answer) ++ (f .«frames_left» ∷ toldEvents (f .events)));
 }
 
 abbrev pub toldStarted : Started → Told

@@ -1,4 +1,5 @@
 -- Document 01, 'Who uses it': the record, and what 16 tests.
+use Prim.Native.Nat.{ℕ}
 use mathlib.Core.Bool.{Bool, true, false}
 use mathlib.Core.List.{List, [], _∷_}
 use lib.Dec.{leb, eqb}
@@ -16,13 +17,17 @@ freshChannel =
 abbrev pub four : {A : Type 0} → A → List A
 four x = x ∷ x ∷ x ∷ x ∷ []
 
--- all 0
-abbrev pub freshPlayer : Player
-freshPlayer = record { stopped = 0; channels = four freshChannel }
+-- before the first frame of a pass: all 0 but the two numbers, the pass's full length
+abbrev pub freshPlayer : ℕ → Player
+freshPlayer length = record { stopped = 0; channels = four freshChannel; «frames_left» = length; «pass_length» = length }
 
--- the end gives a fresh record, with the stopped mark exactly without restart
-abbrev pub endedPlayer : Bool → Player
-endedPlayer restart = record { stopped = pick restart 0 1; channels = four freshChannel }
+-- all 0 but the mark
+abbrev pub stoppedPlayer : Player
+stoppedPlayer = record { stopped = 1; channels = four freshChannel; «frames_left» = 0; «pass_length» = 0 }
+
+-- the end gives a fresh record for another pass, or, without restart, a stopped one
+abbrev pub endedPlayer : Bool → ℕ → Player
+endedPlayer restart length = pick restart (freshPlayer length) stoppedPlayer
 
 abbrev pub cursorOf : Channel → Cursor
 cursorOf c = record { next = c .next; «loop_start» = c .«loop_start»; counter = c .counter; length = c .length }
@@ -42,3 +47,14 @@ abbrev pub channelsFit : List Voice → List Channel → Bool
 channelsFit [] cs = true
 channelsFit (v ∷ vs) [] = true
 channelsFit (v ∷ vs) (c ∷ cs) = pick (channelFits v c) (channelsFit vs cs) false
+
+-- what either number may be
+abbrev pub most-frames : ℕ
+most-frames = 16777216
+
+-- what is not refused under 16; the numbers are asked whether or not any channel is used
+unfoldable pub recordFits : List Voice → Player → Bool
+recordFits voices player =
+    pick (leb (player .«frames_left») most-frames)
+    (pick (leb (player .«pass_length») most-frames) (channelsFit voices (player .channels)) false)
+    false

@@ -96,9 +96,10 @@ fn melodic_rest(i: usize) -> Sound
 {
     if i == TRIANGLE {
         let none = Release::After(QuarterFrames { count: 0 });
-        return Sound::TriangleRest(none);
+        Sound::TriangleRest(none)
+    } else {
+        Sound::SquareRest(ctrl1::SILENT)
     }
-    Sound::SquareRest(ctrl1::SILENT)
 }
 
 // Ctrl 1 of a square's note.
@@ -116,10 +117,11 @@ fn melodic_note(bank: &[u8], track: Track, i: usize, voice: Voice, channel: Chan
     let period = period_at(bytes::part(bank, track.periods, bank::PERIODS_SIZE), key);
     if i == TRIANGLE {
         let after = release::release_of(track.release, channel.length);
-        return Sound::Triangle(key, period, after);
+        Sound::Triangle(key, period, after)
+    } else {
+        let ctrl1 = note_ctrl1(bank, voice, channel);
+        Sound::Square(key, period, ctrl1)
     }
-    let ctrl1 = note_ctrl1(bank, voice, channel);
-    Sound::Square(key, period, ctrl1)
 }
 
 fn noise_sound(presets: &[u8], b: u8) -> Sound

@@ -18,11 +18,15 @@ use metroid_format::command::DATA_LIMIT;
 use metroid_format::header;
 use metroid_format::header::Track;
 use metroid_format::header::Voice;
+use metroid_format::timeline;
+use metroid_format::timeline::Soonest;
 ghost use mathlib.Core.Path.{_≡_};
+ghost use Prim.Native.Nat.{_-_};
 ghost use Rattle.metroid_format.specs.Command.{data-limit};
 ghost use Rattle.metroid_format.specs.Channel.{channelSource, readUntil};
-ghost use Rattle.metroid_player.specs.Record.{cursorOf, channelsFit};
-ghost use Rattle.metroid_player.specs.Frame.{begun, oneOff, turnOfUntil, turnOf, eventless, settleFrom, framed, frameOfTrack, frameOf, startOf, toldFramed, toldStarted};
+ghost use Rattle.metroid_format.specs.Timeline.{soonestOf};
+ghost use Rattle.metroid_player.specs.Record.{cursorOf, channelsFit, recordFits};
+ghost use Rattle.metroid_player.specs.Frame.{begun, oneOff, turnOfUntil, turnOf, eventless, settleFrom, framed, frameOfTrack, frameOf, stopFrame, startOf, toldFramed, toldStarted};
 ghost use Rattle.engine_base.specs.Told.{Answers};
 
 // What a channel does in a frame.
@@ -49,6 +53,8 @@ pub struct Framed {
     pub answer: Answer,
     pub events: [Event; 4],
     pub counts: [u32; 4],
+    // of the record that was given
+    pub frames_left: u32,
     pub player: Player,
 }
 
@@ -165,7 +171,7 @@ fn take_turn(bank: &[u8], track: Track, voice: Voice, channel: Channel) -> Turn
     }
 }
 
-// What 16 tests.
+// What 16 tests of the used channels.
 fn channels_fit(voices: [Voice; 4], channels: [Channel; 4]) -> bool
     ensures { λ r. ⌜ r ≡ channelsFit voices channels ⌝ }
 {
@@ -182,14 +188,37 @@ fn channels_fit(voices: [Voice; 4], channels: [Channel; 4]) -> bool
     true
 }
 
-fn without_events(answer: Answer, counts: [u32; 4], player: Player) -> Framed
-    ensures { λ r. ⌜ r ≡ eventless answer counts player ⌝ }
+// What 16 tests.
+fn record_fits(voices: [Voice; 4], player: Player) -> bool
+    ensures { λ r. ⌜ r ≡ recordFits voices player ⌝ }
+{
+    if record::MOST_FRAMES < player.frames_left {
+        return false;
+    }
+    if record::MOST_FRAMES < player.pass_length {
+        return false;
+    }
+    let channels = player.channels;
+    channels_fit(voices, channels)
+}
+
+// One less, never below 0.
+fn one_less(frames: u32) -> u32
+    ensures { λ r. ⌜ r ≡ frames - 1 ⌝ }
+{
+    if frames == 0 { 0 } else { frames - 1 }
+}
+
+// Shows that many frames left, and hands the record back.
+fn without_events(answer: Answer, counts: [u32; 4], frames_left: u32, player: Player) -> Framed
+    ensures { λ r. ⌜ r ≡ eventless answer counts «frames_left» player ⌝ }
 {
     let off = event::off();
     Framed {
         answer,
         events: [off; 4],
         counts,
+        frames_left,
         player,
     }
 }
@@ -198,13 +227,14 @@ fn without_events(answer: Answer, counts: [u32; 4], player: Player) -> Framed
 fn settle(bank: &[u8], track: Track, player: Player) -> Framed
     ensures { λ r. ⌜ r ≡ framed track player (settleFrom (now (bank .entry)) track 0 (track .voices) (player .channels)) ⌝ }
 {
+    let voices = track.voices;
     let mut channels = player.channels;
     let off = event::off();
     let mut events = [off; 4];
     let mut counts = [0u32; 4];
     let mut i: usize = 0;
     while i < 4 {
-        let voice = track.voices[i];
+        let voice = voices[i];
         let channel = channels[i];
         let turn = take_turn(bank, track, voice, channel);
         let turned = turn.turned;
@@ -225,20 +255,31 @@ fn settle(bank: &[u8], track: Track, player: Player) -> Framed
                 i += 1;
             }
             Turned::End => {
-                let ended = record::ended(track.restart);
-                return without_events(Answer::End, counts, ended);
+                let ended = record::ended(track.restart, player.pass_length);
+                return without_events(Answer::End, counts, player.frames_left, ended);
             }
             Turned::Refused(number, at, address) => {
-                return without_events(Answer::Fault(number, i, at, address), counts, player);
+                return without_events(
+                    Answer::Fault(number, i, at, address),
+                    counts,
+                    player.frames_left,
+                    player,
+                );
             }
         }
     }
-    let stopped = player.stopped;
-    let next = Player { stopped, channels };
+    let shown = player.frames_left;
+    let next = Player {
+        stopped: player.stopped,
+        channels,
+        frames_left: one_less(shown),
+        pass_length: player.pass_length,
+    };
     Framed {
         answer: Answer::Events,
         events,
         counts,
+        frames_left: shown,
         player: next,
     }
 }
@@ -248,28 +289,46 @@ fn frame_of_track(bank: &[u8], track: Track, player: Player) -> Framed
     ensures { λ r. ⌜ r ≡ frameOfTrack (now (bank .entry)) track player ⌝ }
 {
     let voices = track.voices;
-    let channels = player.channels;
     let none = [0u32; 4];
-    if channels_fit(voices, channels) {
+    if record_fits(voices, player) {
         if player.stopped == 0 {
             return settle(bank, track, player);
         }
-        return without_events(Answer::Stopped, none, player);
+        return without_events(Answer::Stopped, none, player.frames_left, player);
     }
-    without_events(Answer::Refused(refusal::INVALID_RECORD), none, player)
+    without_events(
+        Answer::Refused(refusal::INVALID_RECORD),
+        none,
+        player.frames_left,
+        player,
+    )
+}
+
+// The frame of the track's first stop.
+fn pass_length(bank: &[u8], track: Track) -> u32
+    ensures { λ r. ⌜ r ≡ stopFrame (soonestOf (now (bank .entry)) track) ⌝ }
+{
+    let soonest = timeline::soonest_of(bank, track);
+    match soonest {
+        Soonest::Nothing => 0,
+        Soonest::Stop(frame, _, _) => frame,
+    }
 }
 
 impl Player {
-    // Tests 1 to 9. The record is fresh either way.
+    // Tests 1 to 9. The record is fresh either way; refused, its numbers are 0 too.
     pub fn start(bank: &[u8], places: Places, track: u32) -> Started
         ensures { λ r. ⌜ Answers toldStarted r (startOf (now (bank .entry)) places track) ⌝ }
     {
         let opened = header::open(bank, places, track);
-        let player = record::fresh();
-        Started {
-            number: opened.number,
-            player,
+        let number = opened.number;
+        if number == 0 {
+            let opened_track = opened.track;
+            let player = record::fresh(pass_length(bank, opened_track));
+            return Started { number, player };
         }
+        let player = record::fresh(0);
+        Started { number, player }
     }
 
     // The next frame: tests 1 to 9, then 16, then Stopped, then reads.
@@ -283,6 +342,6 @@ impl Player {
             return frame_of_track(bank, opened_track, self);
         }
         let none = [0u32; 4];
-        without_events(Answer::Refused(number), none, self)
+        without_events(Answer::Refused(number), none, self.frames_left, self)
     }
 }

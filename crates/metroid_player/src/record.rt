@@ -23,7 +23,14 @@ pub struct Player {
     pub stopped: u8,
     // square 1, square 2, triangle, noise
     pub channels: [Channel; 4],
+    // to the track's first stop
+    pub frames_left: u32,
+    // from a first frame to it
+    pub pass_length: u32,
 }
+
+// What either number may be.
+pub(crate) const MOST_FRAMES: u32 = 16777216;
 
 pub(crate) fn fresh_channel() -> Channel
     ensures { λ r. ⌜ r ≡ freshChannel ⌝ }
@@ -39,24 +46,27 @@ pub(crate) fn fresh_channel() -> Channel
     }
 }
 
-pub(crate) fn fresh() -> Player
-    ensures { λ r. ⌜ r ≡ freshPlayer ⌝ }
+// Before the first frame of a pass of that length.
+pub(crate) fn fresh(length: u32) -> Player
+    ensures { λ r. ⌜ r ≡ freshPlayer length ⌝ }
 {
     let channel = fresh_channel();
     Player {
         stopped: 0,
         channels: [channel; 4],
+        frames_left: length,
+        pass_length: length,
     }
 }
 
-// The record after the end: fresh, and stopped unless the track restarts.
-pub(crate) fn ended(restart: bool) -> Player
-    ensures { λ r. ⌜ r ≡ endedPlayer restart ⌝ }
+// The record after the end: fresh for another pass of that length, or stopped if the track does not restart.
+pub(crate) fn ended(restart: bool, length: u32) -> Player
+    ensures { λ r. ⌜ r ≡ endedPlayer restart length ⌝ }
 {
     if restart {
-        return fresh();
+        return fresh(length);
     }
-    let mut player = fresh();
+    let mut player = fresh(0);
     player.stopped = 1;
     player
 }

@@ -19,15 +19,18 @@ afterBar values = bar ++ spaced values
 abbrev pub refusalAndKind : Answer → List ℕ
 refusalAndKind answer = decimal (answerNumber answer) ++ spaced (answerKind answer ∷ [])
 
+abbrev pub placeAndLeft : Answer → ℕ → List ℕ
+placeAndLeft answer left = afterBar (answerPlace answer) ++ afterBar (left ∷ [])
+
 abbrev pub eventText : Event → List ℕ
 eventText event = afterBar (toldEvent event)
 
--- refusal or 0 and kind, commands read, place, then five numbers a channel, with bars between
+-- refusal or 0 and kind, commands read, place, frames left, then five numbers a channel, with bars between
 unfoldable pub answerLine : Framed → List ℕ
 answerLine f =
     refusalAndKind (f .answer)
     ++ afterBar (f .counts)
-    ++ afterBar (answerPlace (f .answer))
+    ++ placeAndLeft (f .answer) (f .«frames_left»)
     ++ each eventText (f .events)
     ++ newline
 
@@ -39,6 +42,9 @@ kind-most = digits-most + spaced-most
 -- of so many numbers after a bar
 abbrev pub group-most : ℕ → ℕ
 group-most n = 2 + spaced-most * n
+
+abbrev pub place-most : ℕ
+place-most = group-most 3 + group-most 1
 
 abbrev pub event-most : ℕ
 event-most = group-most 5

@@ -26,7 +26,7 @@ spaced = each afterSpace
 
 -- no line is longer
 abbrev pub line-most : ℕ
-line-most = 621
+line-most = 644
 
 -- the count is the whole line's, whatever the room; the buffer has the line as far as it fits, and behind it what it had
 pub record Spells (line before : List ℕ) (count : ℕ) (after : List ℕ) : Type 0 where

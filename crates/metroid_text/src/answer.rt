@@ -12,7 +12,7 @@ ghost use lib.ListN.{length};
 ghost use Rattle.metroid_player.specs.Event.{toldEvent};
 ghost use Rattle.engine_base.specs.Answer.{answerPlace};
 ghost use Rattle.metroid_text.specs.Line.{each, Spells, Puts};
-ghost use Rattle.metroid_text.specs.Answer.{afterBar, refusalAndKind, eventText, answerLine, kind-most, group-most, events-most};
+ghost use Rattle.metroid_text.specs.Answer.{afterBar, refusalAndKind, placeAndLeft, eventText, answerLine, kind-most, group-most, place-most, events-most};
 
 // An event's numbers.
 fn event_numbers(event: Event) -> [u64; 5]
@@ -71,6 +71,15 @@ fn put_kind(answer: Answer, out: &mut [u8]) -> usize
     decimal::spaced(&[answer::kind_of(answer) as u64], out, next)
 }
 
+// The place, then the frames left.
+fn put_place(answer: Answer, frames_left: u32, out: &mut [u8], at: usize) -> usize
+    requires { ⌜ at + place-most < 2 ^ 64 ⌝ }
+    ensures { λ r. ⌜ Puts place-most (placeAndLeft answer «frames_left») (now (out .entry)) at r (now (out .exit)) ⌝ }
+{
+    let next = put_group(&place_of(answer), out, at);
+    put_group(&[frames_left as u64], out, next)
+}
+
 fn put_events(events: [Event; 4], out: &mut [u8], at: usize) -> usize
     requires { ⌜ at + events-most < 2 ^ 64 ⌝ }
     ensures { λ r. ⌜ Puts events-most (each eventText events) (now (out .entry)) at r (now (out .exit)) ⌝ }
@@ -86,7 +95,8 @@ fn put_events(events: [Event; 4], out: &mut [u8], at: usize) -> usize
 }
 
 // The refusal or 0 and the kind (0 events, 1 end, 2 stopped, 3 refused), the commands read by each channel, channel,
-// offset and address of a refusal 10 to 15 or 0 0 0, then five numbers for each channel, with bars between, and a newline.
+// offset and address of a refusal 10 to 15 or 0 0 0, the frames left, then five numbers for each channel, with bars between,
+// and a newline.
 pub fn line(framed: Framed, out: &mut [u8]) -> usize
     ensures { λ r. ⌜ Spells (answerLine framed) (now (out .entry)) r (now (out .exit)) ⌝ }
 {
@@ -95,7 +105,7 @@ pub fn line(framed: Framed, out: &mut [u8]) -> usize
     let events = framed.events;
     let kind = put_kind(answer, out);
     let read = put_group(&wide(counts), out, kind);
-    let placed = put_group(&place_of(answer), out, read);
+    let placed = put_place(answer, framed.frames_left, out, read);
     let told = put_events(events, out, placed);
     line::append(b"\n", out, told)
 }

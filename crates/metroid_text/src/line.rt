@@ -5,7 +5,7 @@ ghost use lib.ListN.{length};
 ghost use Rattle.metroid_text.specs.Line.{Puts};
 
 // A buffer of this length holds every line whole.
-pub const LINE_MOST: usize = 621;
+pub const LINE_MOST: usize = 644;
 
 // Writes a text from an index on; the index behind it.
 pub(crate) fn append(text: &[u8], out: &mut [u8], at: usize) -> usize

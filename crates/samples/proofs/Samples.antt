@@ -32,16 +32,16 @@ use Rattle.metroid_format.specs.Header.{
 }
 use Rattle.metroid_format.specs.declared.bank.Places.{Places}
 use Rattle.metroid_format.specs.Channel.{lengthFault, counterOf, playedAt, stepOf, readFrom, readUntil}
-use Rattle.metroid_format.specs.Timeline.{passedOf, passFrom, timelineOf}
+use Rattle.metroid_format.specs.Timeline.{passedOf, passFrom, timelineOf, stopOf, soonestFrom}
 use Rattle.engine_base.specs.Release.{dynamic}
 use Rattle.metroid_player.specs.Release.{releaseOf}
 use Rattle.metroid_player.specs.Ctrl1.{defaultCtrl1, combined, ctrl1At}
-use Rattle.metroid_player.specs.Record.{soundFits, channelFits}
+use Rattle.metroid_player.specs.Record.{soundFits, channelFits, recordFits}
 use Rattle.metroid_player.specs.Event.{periodAt, envelopeOf, melodicRest, noteCtrl1, melodicNote, noiseSound, soundOf}
 use Rattle.metroid_player.specs.Frame.{turnOf, settleFrom, frameOfTrack, frameOf, startOf, toldFramed}
 use Rattle.metroid_player.specs.declared.frame.Framed.{Framed}
 use Rattle.metroid_check.specs.Run.{framesFrom, runOf}
-use Rattle.metroid_check.specs.Verdict.{stopOf, soonestFrom, verdictOf, toldVerdict}
+use Rattle.metroid_check.specs.Verdict.{verdictOf, toldVerdict}
 
 -- bytes at an address
 record Piece : Type 0 where
@@ -124,13 +124,16 @@ record Seen : Type 0 where
 abbrev sees : ℕ → ℕ → ℕ → Seen
 sees frame place value = record { frame = frame; place = place; value = value }
 
--- the triangle's commands, what it sounds, key and release, and square 1's ctrl 1
+-- the triangle's commands, the frames left, what the triangle sounds, its key and release, and square 1's ctrl 1
 abbrev commands : ℕ
 commands = 1 + 2
 
+abbrev left : ℕ
+left = 8
+
 -- where the channels' parts start
 abbrev parts : ℕ
-parts = 8
+parts = 9
 
 abbrev kind : ℕ
 kind = parts + 5 * 2
@@ -178,12 +181,13 @@ numbered track (s ∷ ss) = s track ∷ numbered (track + 1) ss
 samples : List Sample
 samples =
     numbered 0
-    (showing (triangle (0xb0 ∷ 0x2a ∷ 0x00 ∷ [])) 0 (passes 6 2) 1 (sees 0 key 0x15 ∷ sees 0 release 20 ∷ [])
+    (showing (triangle (0xb0 ∷ 0x2a ∷ 0x00 ∷ [])) 0 (passes 6 2) 1 (sees 0 left 6 ∷ sees 0 key 0x15 ∷ sees 0 release 20 ∷ [])
     ∷ showing (triangle (0xc3 ∷ 0xb0 ∷ 0x2a ∷ 0x02 ∷ 0xff ∷ 0x00 ∷ [])) 0 (passes 36 2) 37
-    (sees 0 commands 2 ∷ sees 12 commands 2 ∷ sees 24 commands 2 ∷ sees 36 commands 2 ∷ [])
+    (sees 0 commands 2 ∷ sees 12 commands 2 ∷ sees 24 commands 2 ∷ sees 36 commands 2
+    ∷ sees 0 left 36 ∷ sees 12 left 24 ∷ sees 35 left 1 ∷ sees 36 left 0 ∷ [])
     ∷ sample (triangle (0xc0 ∷ 0xb0 ∷ 0x2a ∷ 0xff ∷ 0x00 ∷ [])) (passes 1536 2)
     ∷ sample (triangle (0xff ∷ 0x00 ∷ [])) (passes 0 2)
-    ∷ showing (triangle (0xb0 ∷ 0x00 ∷ 0x00 ∷ [])) 0 (passes 6 2) 1 (sees 0 kind note ∷ sees 0 key 0 ∷ [])
+    ∷ showing (triangle (0xb0 ∷ 0x00 ∷ 0x00 ∷ [])) 0 (passes 6 2) 1 (sees 0 left 6 ∷ sees 0 kind note ∷ sees 0 key 0 ∷ [])
     ∷ sample (triangle (0x2a ∷ 0x00 ∷ [])) (refused no-length 2 0 0 0x80a0)
     ∷ sample (triangle (0xb0 ∷ 0x81 ∷ [])) (refused invalid-note 2 1 0 0x80c1)
     ∷ sample (triangle (0xb0 ∷ 0x2a ∷ 0xa0 ∷ [])) (refused invalid-command 2 2 6 0x80e2)
@@ -194,9 +198,9 @@ samples =
     ∷ sample (lastByte 0x00) (passes 0 2)
     ∷ sample (lastByte 0xb0) (refused past-data 2 1 0 0xc000)
     ∷ showing (square (0xb0 ∷ 0x2a ∷ 0x00 ∷ [])) 0xb3 (passes 6 0) 6
-    (sees 0 ctrl1 0xb4 ∷ sees 1 ctrl1 0xb2 ∷ sees 2 ctrl1 0xb3 ∷ sees 5 ctrl1 0xb3 ∷ [])
+    (sees 0 ctrl1 0xb4 ∷ sees 1 ctrl1 0xb2 ∷ sees 2 ctrl1 0xb3 ∷ sees 5 ctrl1 0xb3 ∷ sees 0 left 6 ∷ sees 5 left 1 ∷ [])
     ∷ showing (square (0xb0 ∷ 0x2a ∷ 0x00 ∷ [])) 0 (passes 6 0) 6
-    (sees 0 ctrl1 0x04 ∷ sees 1 ctrl1 0x02 ∷ sees 2 ctrl1 0x10 ∷ sees 5 ctrl1 0x10 ∷ [])
+    (sees 0 ctrl1 0x04 ∷ sees 1 ctrl1 0x02 ∷ sees 2 ctrl1 0x10 ∷ sees 5 ctrl1 0x10 ∷ sees 0 left 6 ∷ sees 5 left 1 ∷ [])
     ∷ [])
 
 -- the bank of all samples, by its last byte; envelope 1 is `04 02 FF`
@@ -240,7 +244,7 @@ foundIn bank places s = (
 )
 
 found : Sample → Told × List Seen
-unfolding flatMap samples isKey isPreset noteAfter commandOf commandAt within wordAt tablesFit placesFit headerAddress headerOf windowFits envelopeNumbersFit envelopeAddress envelopeEnds squareEnds squaresEnd addressFits addressesFit allUnused headerNumber numberOf voiceOf voicesOf trackOf openTrack lengthFault counterOf playedAt stepOf readFrom readUntil passedOf passFrom timelineOf dynamic releaseOf defaultCtrl1 combined ctrl1At soundFits channelFits periodAt envelopeOf melodicRest noteCtrl1 melodicNote noiseSound soundOf turnOf settleFrom frameOfTrack frameOf startOf framesFrom runOf stopOf soonestFrom verdictOf
+unfolding flatMap samples isKey isPreset noteAfter commandOf commandAt within wordAt tablesFit placesFit headerAddress headerOf windowFits envelopeNumbersFit envelopeAddress envelopeEnds squareEnds squaresEnd addressFits addressesFit allUnused headerNumber numberOf voiceOf voicesOf trackOf openTrack lengthFault counterOf playedAt stepOf readFrom readUntil passedOf passFrom timelineOf dynamic releaseOf defaultCtrl1 combined ctrl1At soundFits channelFits recordFits periodAt envelopeOf melodicRest noteCtrl1 melodicNote noiseSound soundOf turnOf settleFrom frameOfTrack frameOf startOf framesFrom runOf stopOf soonestFrom verdictOf
 found s = foundIn (bankWith (s .puts .last)) (counted (length samples) (published (s .default) 0)) s
 
 abbrev expected : Sample → Told × List Seen

@@ -28,4 +28,8 @@ module _ (v : Verdict) (p : (start : ℕ → ℕ) × VerdictWithin start v) wher
 pub judges : (bank : List ℕ) (places : Places) (track : ℕ) (before : List ℕ) (number : ℕ) (after : List ℕ) (v : Verdict) →
     Foreseen bank places track v → Tells (toldVerdict v) before number after → Judges bank places track before number after
 judges bank places track before number after v f t =
-    record { told = rw (f .answer .same) at t; runs = rw (f .answer .same) at (f .runs) }
+    record {
+      told = rw (f .answer .same) at t;
+      runs = rw (f .answer .same) at (f .runs);
+      countdown = rw (f .answer .same) at (f .countdown);
+    }

@@ -38,18 +38,19 @@ three Answer.Stopped = refl
 three (Answer.Refused number) = refl
 three (Answer.Fault number channel at address) = refl
 
--- the kind, four counts, three words of place, then the events
-pub answer-put : (a : Answer) (counts : List ℕ) (events : List Event) (before : List ℕ) (kind : ℕ) → kind ≡ answerKind a → (one : List ℕ) → one ≡ sets before 0 (kind ∷ []) →
+-- the kind, four counts, three words of place, the frames left, then the events
+pub answer-put : (a : Answer) (counts : List ℕ) (left : ℕ) (events : List Event) (before : List ℕ) (kind : ℕ) → kind ≡ answerKind a → (one : List ℕ) → one ≡ sets before 0 (kind ∷ []) →
     (next : List ℕ) → next ≡ sets one 1 counts → (place : List ℕ) → place ≡ answerPlace a →
-    (third : List ℕ) → third ≡ sets next 5 place → (last : List ℕ) → last ≡ sets third 8 (toldEvents events) →
-    length counts ≡ 4 → last ≡ sets before 0 (answerKind a ∷ counts ++ (answerPlace a ++ toldEvents events))
-answer-put a counts events before kind k one o next n place p third t last l four =
+    (third : List ℕ) → third ≡ sets next 5 place → (fourth : List ℕ) → fourth ≡ sets third 8 (left ∷ []) →
+    (last : List ℕ) → last ≡ sets fourth 9 (toldEvents events) →
+    length counts ≡ 4 → last ≡ sets before 0 (answerKind a ∷ counts ++ (answerPlace a ++ (left ∷ toldEvents events)))
+answer-put a counts left events before kind k one o next n place p third t fourth u last l four =
     let first = sets before 0 (answerKind a ∷ []) in
     let five : 1 + length counts ≡ 5 = omega arith in
     let eight : 5 + length (answerPlace a) ≡ 8 = omega (arith, three a) in
-    let behind-counts = rw five at (sets-append first 1 counts (answerPlace a ++ toldEvents events)) in
-    let behind-place = rw eight at (sets-append (sets first 1 counts) 5 (answerPlace a) (toldEvents events)) in
-    rw (l, t, p, n, o, k) (sym (behind-counts ∙ behind-place))
+    let behind-counts = rw five at (sets-append first 1 counts (answerPlace a ++ (left ∷ toldEvents events))) in
+    let behind-place = rw eight at (sets-append (sets first 1 counts) 5 (answerPlace a) (left ∷ toldEvents events)) in
+    rw (l, u, t, p, n, o, k) (sym (behind-counts ∙ behind-place))
 
 -- five words a channel
 five : (e : Event) → length (toldEvent e) ≡ 5
@@ -68,29 +69,29 @@ five e = by (e .sound) refl
 pub record Putting (before : List ℕ) (events : List Event) (now : List ℕ) (i : ℕ) : Type 0 where
   pub within : i ≤ 4
   pub four : length events ≡ 4
-  pub same : sets before 8 (toldEvents events) ≡ sets now (8 + 5 * i) (toldEvents (drop i events))
+  pub same : sets before 9 (toldEvents events) ≡ sets now (9 + 5 * i) (toldEvents (drop i events))
   pub size : length now ≡ length before
 
 module _ (before : List ℕ) (events : List Event) (now : List ℕ) (i : ℕ) (p : Putting before events now i) where
   -- words are what `event_words` gives of the channel
-  pub putting-more : i < 4 → (d : Event) (words : List ℕ) → words ≡ toldEvent (getD events i d) → (next : List ℕ) → next ≡ sets now (8 + 5 * i) words →
+  pub putting-more : i < 4 → (d : Event) (words : List ℕ) → words ≡ toldEvent (getD events i d) → (next : List ℕ) → next ≡ sets now (9 + 5 * i) words →
       Putting before events next (i + 1)
   putting-more h d words w next e =
       let v : i < length events = omega (arith, p .four) in
-      let n : 8 + 5 * i + length words ≡ 8 + 5 * (i + 1) = omega (arith, ap length w, five (getD events i d)) in
+      let n : 9 + 5 * i + length words ≡ 9 + 5 * (i + 1) = omega (arith, ap length w, five (getD events i d)) in
       record {
         within = omega arith;
         four = p .four;
         same =
             p .same
-            ∙ ap (λ es. sets now (8 + 5 * i) (toldEvents es)) (drop-cons events i d v)
-            ∙ ap (λ ws. sets now (8 + 5 * i) (ws ++ toldEvents (drop (suc i) events))) (sym w)
-            ∙ sets-append now (8 + 5 * i) words (toldEvents (drop (suc i) events))
+            ∙ ap (λ es. sets now (9 + 5 * i) (toldEvents es)) (drop-cons events i d v)
+            ∙ ap (λ ws. sets now (9 + 5 * i) (ws ++ toldEvents (drop (suc i) events))) (sym w)
+            ∙ sets-append now (9 + 5 * i) words (toldEvents (drop (suc i) events))
             ∙ rw (e, ← n, add-one i);
-        size = rw e (length-sets now (8 + 5 * i) words ∙ p .size);
+        size = rw e (length-sets now (9 + 5 * i) words ∙ p .size);
       }
 
-  pub all-put : 4 ≤ i → now ≡ sets before 8 (toldEvents events)
+  pub all-put : 4 ≤ i → now ≡ sets before 9 (toldEvents events)
   all-put h =
       let v : length events ≤ i = omega (arith, p .four) in
       rw (p .same, drop-of-length-le events {i = i} v)

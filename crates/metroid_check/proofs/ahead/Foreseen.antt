@@ -55,7 +55,7 @@ nearer-least (Nearer.used {n = m} d) (sooner h l) = let (k, e, s) = nearer-least
 -- what the frame of the least stop answers, and the record that it gives
 abbrev pub StopsAt : Track → Player → ℕ → Finish → Framed → Type 0
 StopsAt track player i Finish.End f =
-    (f .answer ≡ Answer.End) × (lastCounted (f .counts) ≡ i) × (f .player ≡ endedPlayer (track .restart))
+    (f .answer ≡ Answer.End) × (lastCounted (f .counts) ≡ i) × (f .player ≡ endedPlayer (track .restart) (player .«pass_length»))
 StopsAt track player i (Finish.Refused number at address) f = (f .answer ≡ Answer.Fault number i at address) × (f .player ≡ player)
 
 -- a frame that answers events, after which the least stop is n frames ahead

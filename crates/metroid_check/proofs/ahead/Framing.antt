@@ -1,17 +1,19 @@
 -- A frame of a run.
-use Prim.Native.Nat.{ℕ, zero, suc, _+_, _<_}
+use Prim.Native.Nat.{ℕ, zero, suc, _+_, _-_, _<_}
+use mathlib.Core.Bool.{true}
 use mathlib.Core.List.{List, [], _∷_, _++_, append-nil}
 use mathlib.Core.Path.{_≡_, refl, sym, ap, _∙_}
 use native.Mathlib.Nat.{add-zero, zero-add}
 use native.Mathlib.Omega.{arith}
-use borrow.Author.Tests.{eq-eqb, ne-eqb}
+use borrow.Author.Tests.{eq-eqb, ne-eqb, le-leb}
 use lib.Dec.{eqb}
 use lib.ListN.{length, drop, drop-of-length-le}
 use lib.Seq.{sets, sets-eq}
 use Rattle.engine_base.specs.Pick.{pick}
+use Rattle.metroid_format.specs.declared.header.Voice.{Voice}
 use Rattle.metroid_format.specs.declared.header.Track.{Track}
 use Rattle.metroid_format.specs.declared.timeline.Finish.{Finish}
-use Rattle.metroid_player.specs.Record.{four, endedPlayer}
+use Rattle.metroid_player.specs.Record.{four, endedPlayer, channelsFit, recordFits}
 use Rattle.metroid_player.specs.Event.{offEvent}
 use Rattle.metroid_player.specs.Counts.{most-commands, AtMost}
 use Rattle.metroid_check.specs.Run.{lastFrom, lastCounted}
@@ -21,6 +23,7 @@ use Rattle.metroid_player.specs.declared.event.Event.{Event}
 use Rattle.engine_base.specs.declared.answer.Answer.{Answer}
 use Rattle.metroid_player.specs.declared.frame.Framed.{Framed}
 use Rattle.metroid_player.proofs.frame.Counts.{none-most, frame-counts}
+use Rattle.metroid_check.specs.Countdown.{NumbersWithin}
 use Rattle.metroid_check.proofs.ahead.Settling.{
   Ahead,
   Nearer,
@@ -71,27 +74,56 @@ sets-all : {A : Type 0} (vs l : List A) → length vs ≡ length l → sets l 0 
 sets-all vs l e =
     rw (sets-eq vs l 0 (omega arith), drop-of-length-le l {i = 0 + length vs} (omega arith)) (append-nil vs)
 
+-- the record passes 16
+pub record-fits : (voices : List Voice) (player : Player) → NumbersWithin player → channelsFit voices (player .channels) ≡ true →
+    recordFits voices player ≡ true
+unfolding recordFits
+record-fits voices player (l, m) f = rw (le-leb _ _ l, le-leb _ _ m, f)
+
 module _ (bank : List ℕ) (track : Track) where
   -- a record that a frame of the run is given
   pub record InRun (player : Player) (now : List Ahead) : Type 0 where
     pub going : player .stopped ≡ 0
+    pub numbers : NumbersWithin player
     pub channels : AllRunning bank track (track .voices) (player .channels) now
 
   pub data FrameOfRun (player : Player) (now : List Ahead) : Framed → Type 0 where
     events : {es : List Event} {counts : List ℕ} {next : Player} {then : List Ahead} → Nearer now then → InRun next then →
-        FrameOfRun player now (record { answer = Answer.Events; events = es; counts = counts; player = next })
+        FrameOfRun player now (record { answer = Answer.Events; events = es; counts = counts; «frames_left» = player .«frames_left»; player = next })
     ends : {counts : List ℕ} {i : ℕ} → Due now i Finish.End → lastCounted counts ≡ i →
         FrameOfRun player now
-        (record { answer = Answer.End; events = four offEvent; counts = counts; player = endedPlayer (track .restart) })
+        (record {
+          answer = Answer.End;
+          events = four offEvent;
+          counts = counts;
+          «frames_left» = player .«frames_left»;
+          player = endedPlayer (track .restart) (player .«pass_length»);
+        })
     faults : {counts : List ℕ} {i number at address : ℕ} → Due now i (Finish.Refused number at address) →
-        FrameOfRun player now (record { answer = Answer.Fault number i at address; events = four offEvent; counts = counts; player = player })
+        FrameOfRun player now
+        (record {
+          answer = Answer.Fault number i at address;
+          events = four offEvent;
+          counts = counts;
+          «frames_left» = player .«frames_left»;
+          player = player;
+        })
 
   framed-run : {player : Player} {now : List Ahead} (s : Settled) → length (track .voices) ≡ 4 → InRun player now → Settles bank track 0 (track .voices) now s →
       FrameOfRun player now (framed track player s)
   framed-run {player} _ whole p (Settles.events {channels} d r) =
-      events {next = record { stopped = player .stopped; channels = sets (player .channels) 0 channels }} d
+      events
+      {next =
+      record {
+        stopped = player .stopped;
+        channels = sets (player .channels) 0 channels;
+        «frames_left» = player .«frames_left» - 1;
+        «pass_length» = player .«pass_length»;
+      }}
+      d
       (record {
         going = p .going;
+        numbers = (omega (arith, p .numbers .0), p .numbers .1);
         channels = rw (sets-all channels (player .channels) (running-length bank track r ∙ sym (running-length bank track (p .channels)))) r;
       })
   framed-run _ whole p (Settles.ends d c) =
@@ -101,7 +133,8 @@ module _ (bank : List ℕ) (track : Track) where
   pub frame-of-run : {player : Player} {now : List Ahead} → length (track .voices) ≡ 4 → InRun player now → FrameOfRun player now (frameOfTrack bank track player)
   unfolding frameOfTrack
   frame-of-run {player} whole p =
-      rw (all-fit bank track (p .channels), eq-eqb _ _ (p .going)) (framed-run _ whole p (settles bank track 0 (p .channels)))
+      rw (record-fits (track .voices) player (p .numbers) (all-fit bank track (p .channels)), eq-eqb _ _ (p .going))
+      (framed-run _ whole p (settles bank track 0 (p .channels)))
 
   -- 32,896
   pub run-counts : {player : Player} {now : List Ahead} → InRun player now → AtMost most-commands (frameOfTrack bank track player .counts)

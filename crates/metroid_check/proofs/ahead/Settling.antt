@@ -55,7 +55,7 @@ module _ (bank : List ℕ) (track : Track) where
   all-looped (unused u rs) = ((λ t. absurd (false-true (sym u ∙ t))), all-looped rs)
   all-looped (used u r rs) = ((λ _. r .looped), all-looped rs)
 
-  -- the records pass 16
+  -- the channels' records pass 16
   pub all-fit : {voices : List Voice} {channels : List Channel} {now : List Ahead} → AllRunning voices channels now →
       channelsFit voices channels ≡ true
   all-fit none = refl

@@ -1,6 +1,5 @@
 -- The start of a run: what is ahead of each used channel is its timeline, and some channel is used.
-use Prim.Native.Nat.{ℕ}
-use mathlib.Core.Bool.{false}
+use Prim.Native.Nat.{ℕ, _≤_}
 use mathlib.Core.List.{List, [], _∷_, map}
 use mathlib.Core.Path.{_≡_, refl, sym, subst, _∙_}
 use native.Mathlib.Nat.{zero-add}
@@ -17,13 +16,13 @@ use Rattle.metroid_format.specs.declared.bank.Places.{Places}
 use Rattle.metroid_format.specs.declared.header.Voice.{Voice}
 use Rattle.metroid_format.specs.declared.header.Track.{Track}
 use Rattle.metroid_format.specs.declared.timeline.Finish.{Finish}
-use Rattle.metroid_player.specs.Record.{freshChannel, freshPlayer, endedPlayer}
+use Rattle.metroid_player.specs.Record.{freshChannel, freshPlayer, stoppedPlayer, most-frames}
 use Rattle.metroid_player.specs.Frame.{unplayed, frameOfTrack, frameOf}
 use Rattle.metroid_player.specs.declared.record.Player.{Player}
 use Rattle.engine_base.specs.declared.answer.Answer.{Answer}
 use Rattle.metroid_check.proofs.ahead.Running.{Running}
 use Rattle.metroid_check.proofs.ahead.Settling.{Ahead, nothing, stop, AllRunning, all-fit}
-use Rattle.metroid_check.proofs.ahead.Framing.{InRun}
+use Rattle.metroid_check.proofs.ahead.Framing.{InRun, record-fits}
 
 -- some channel has a stop ahead
 pub data SomeStop : List Ahead → Type 0 where
@@ -65,16 +64,17 @@ module _ (bank : List ℕ) (track : Track) where
       by-test (λ a. SomeStop (a ∷ map aheadOf vs)) (v .used) (λ _. SomeStop.here) λ f. absurd (false-true (sym f ∙ u))
   some-stop (SomeUsed.later s) = SomeStop.later (some-stop s)
 
-  fresh-run : length (track .voices) ≡ 4 → InRun bank track freshPlayer (map aheadOf (track .voices))
-  fresh-run whole = record {
+  fresh-run : length (track .voices) ≡ 4 → (n : ℕ) → n ≤ most-frames → InRun bank track (freshPlayer n) (map aheadOf (track .voices))
+  fresh-run whole n h = record {
     going = refl;
+    numbers = (h, h);
     channels = subst (λ n. AllRunning bank track (track .voices) (replicate n freshChannel) (map aheadOf (track .voices))) whole (all-fresh (track .voices));
   }
 
 -- a track that opens: four channels, some of them used, and each used one has its timeline ahead
 pub record Starts (bank : List ℕ) (track : Track) : Type 0 where
   pub whole : length (track .voices) ≡ 4
-  pub run : InRun bank track freshPlayer (map (aheadOf bank track) (track .voices))
+  pub run : (n : ℕ) → n ≤ most-frames → InRun bank track (freshPlayer n) (map (aheadOf bank track) (track .voices))
   pub some : SomeStop (map (aheadOf bank track) (track .voices))
 
 pub starts : (bank : List ℕ) (places : Places) (track : ℕ) → openTrack bank places track .number ≡ 0 →
@@ -86,9 +86,10 @@ starts bank places track e =
 
 -- without restart the record after the end answers Stopped, and stays
 pub stays-stopped : {bank : List ℕ} {track : Track} → Starts bank track →
-    frameOfTrack bank track (endedPlayer false) ≡ unplayed Answer.Stopped (endedPlayer false)
+    frameOfTrack bank track stoppedPlayer ≡ unplayed Answer.Stopped stoppedPlayer
 unfolding frameOfTrack
-stays-stopped {bank} {track} s = rw (all-fit bank track (s .run .channels))
+stays-stopped {bank} {track} s =
+    rw (record-fits (track .voices) stoppedPlayer (omega arith, omega arith) (all-fit bank track (s .run 0 (omega arith) .channels)))
 
 module _ (bank : List ℕ) (places : Places) (track : ℕ) (player : Player) where
   pub opened-frame : openTrack bank places track .number ≡ 0 →

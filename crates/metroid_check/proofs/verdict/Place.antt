@@ -21,10 +21,10 @@ use Rattle.metroid_format.specs.declared.header.Voice.{Voice}
 use Rattle.metroid_format.specs.declared.header.Track.{Track}
 use Rattle.metroid_format.specs.declared.timeline.Finish.{Finish}
 use Rattle.metroid_format.specs.Channel.{Source, channelSource, freshCursor}
-use Rattle.metroid_format.specs.Timeline.{Walk, timelineOf}
+use Rattle.metroid_format.specs.Timeline.{Walk, timelineOf, stopOf, sooner, soonestFrom, soonestOf}
 use Rattle.metroid_format.proofs.channel.Offsets.{source-within}
-use Rattle.metroid_check.specs.Verdict.{stopOf, sooner, soonestFrom, verdictBy, verdictOf, VerdictWithin}
-use Rattle.metroid_check.specs.declared.verdict.Soonest.{Soonest}
+use Rattle.metroid_check.specs.Verdict.{verdictBy, verdictOf, VerdictWithin}
+use Rattle.metroid_format.specs.declared.timeline.Soonest.{Soonest}
 use Rattle.metroid_check.specs.declared.verdict.Verdict.{Verdict}
 
 -- the address of a fault of a channel by itself
@@ -95,7 +95,7 @@ module _ (bank : List ℕ) (places : Places) (track : ℕ) where
       (λ e.
       let opened = openTrack bank places track .track in
       let o = opens bank places track (eqb-true _ _ e) in
-      by-soonest bank opened start (soonestFrom bank opened 0 (opened .voices))
+      by-soonest bank opened start (soonestOf bank opened)
       (soonest-below bank opened start 4 0 (opened .voices) (o .size) (o .starts) (omega (arith, o .four)))) λ e.
       unopened bank places track (eqb-false _ _ e)
 

@@ -1,14 +1,15 @@
 -- Bounds of the pass: with bytes for lengths its sums stay within 65,280 frames a byte.
-use Prim.Native.Nat.{ℕ, _+_, _*_, _≤_, _<_}
+use Prim.Native.Nat.{ℕ, zero, suc, _+_, _*_, _≤_, _<_}
 use mathlib.Core.Bool.{Bool, true, false}
 use native.Mathlib.Nat.{mul-le-mul, mul-le-mul-left, mul-add}
 use native.Mathlib.Omega.{arith}
 use lib.Dec.{eqb}
 use lib.ListN.{length, getD}
 use Rattle.metroid_format.specs.Channel.{Source, playedAt}
-use Rattle.metroid_format.specs.Timeline.{frames-a-byte, afterLone, passedBy, passedOf}
+use Rattle.metroid_format.specs.Timeline.{frames-a-byte, afterLone, passedBy, passedOf, passBy, passFrom, freshPass, timelineOf}
 use Rattle.metroid_format.proofs.channel.Stepped.{Plays, plays}
 use Rattle.metroid_format.specs.declared.channel.Played.{Played}
+use Rattle.metroid_format.specs.declared.timeline.Timeline.{Timeline}
 use Rattle.metroid_format.specs.declared.timeline.Pass.{Pass}
 use Rattle.metroid_format.specs.declared.timeline.Passed.{Passed}
 
@@ -66,3 +67,19 @@ module _ (source : Source) (table : (i : ℕ) → getD (source .lengths) i 0 ≤
   pub bounded : BoundedBy source (passedOf source pass)
   unfolding passedOf
   bounded = bounded-by (playedAt source (pass .next) (pass .length)) (plays source (pass .next) (pass .length))
+
+module _ (source : Source) (table : (i : ℕ) → getD (source .lengths) i 0 ≤ 255) where
+  by-bounded : (on : Pass → Timeline) → ((after : Pass) → Bounded source after → on after .frames ≤ frames-a-byte * length (source .bytes)) →
+      (pass : Pass) → Bounded source pass → (p : Passed) → BoundedBy source p → passBy on pass p .frames ≤ frames-a-byte * length (source .bytes)
+  by-bounded on later pass b (Passed.On after) a = later after a
+  by-bounded on later pass b (Passed.Finished finish) a = omega (arith, b .frames-bound, b .within)
+
+  from-bounded : (fuel : ℕ) (pass : Pass) → Bounded source pass → passFrom source fuel pass .frames ≤ frames-a-byte * length (source .bytes)
+  unfolding passFrom
+  from-bounded zero pass b = omega (arith, b .frames-bound, b .within)
+  from-bounded (suc fuel) pass b =
+      by-bounded (passFrom source fuel) (from-bounded fuel) pass b (passedOf source pass) (bounded source table pass b)
+
+  pub timeline-bounded : timelineOf source .frames ≤ frames-a-byte * length (source .bytes)
+  unfolding timelineOf
+  timeline-bounded = from-bounded (length (source .bytes) + 1) freshPass (omega arith)

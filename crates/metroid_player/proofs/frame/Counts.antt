@@ -18,7 +18,7 @@ use Rattle.metroid_format.specs.declared.header.Voice.{Voice}
 use Rattle.metroid_format.specs.declared.header.Track.{Track}
 use Rattle.metroid_format.specs.declared.channel.Cursor.{Cursor}
 use Rattle.metroid_format.specs.declared.channel.Stop.{Stop}
-use Rattle.metroid_player.specs.Record.{four, cursorOf, channelsFit}
+use Rattle.metroid_player.specs.Record.{four, cursorOf, recordFits}
 use Rattle.metroid_player.specs.Counts.{most-commands, AtMost}
 use Rattle.metroid_player.specs.Frame.{
   turnBy,
@@ -109,7 +109,7 @@ module _ (bank : List ℕ) (track : Track) (extra : ℕ) (one : extra ≤ 1) whe
       AtMost (most-commands + extra) (frameOfTrack bank track player .counts)
   unfolding frameOfTrack
   frame-counts player p =
-      by-test Small (channelsFit (track .voices) (player .channels))
+      by-test Small (recordFits (track .voices) player)
       (λ _.
       by-test Small (eqb (player .stopped) 0)
       (λ _.

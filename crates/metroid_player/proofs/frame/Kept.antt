@@ -7,7 +7,7 @@ use Rattle.metroid_format.specs.Header.{openTrack}
 use Rattle.engine_base.proofs.Picks.{by-test}
 use Rattle.metroid_format.specs.declared.bank.Places.{Places}
 use Rattle.metroid_format.specs.declared.header.Track.{Track}
-use Rattle.metroid_player.specs.Record.{four, channelsFit}
+use Rattle.metroid_player.specs.Record.{four, recordFits}
 use Rattle.metroid_player.specs.Frame.{Settled, settleFrom, framedBy, frameOfTrack, frameOf}
 use Rattle.metroid_player.specs.declared.record.Player.{Player}
 use Rattle.engine_base.specs.declared.answer.Answer.{Answer}
@@ -34,7 +34,7 @@ framed-kept track player s (Answer.Fault number i at address) = refl
 track-kept : (bank : List ℕ) (track : Track) (player : Player) → Kept player (frameOfTrack bank track player)
 unfolding frameOfTrack
 track-kept bank track player =
-    by-test (Kept player) (channelsFit (track .voices) (player .channels))
+    by-test (Kept player) (recordFits (track .voices) player)
     (λ _.
     by-test (Kept player) (eqb (player .stopped) 0)
     (λ _.

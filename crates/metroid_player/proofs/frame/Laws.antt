@@ -8,22 +8,26 @@ use native.Mathlib.Numerals.{add-one}
 use lib.Dec.{leb}
 use lib.ListN.{length, getD, set, take, drop, drop-of-length-le, length-set}
 use lib.Seq.{sets, take-take, drop-cons, drop-drop, drop-set-lt}
-use borrow.Author.Tests.{leb-true}
+use borrow.Author.Tests.{leb-true, eq-eqb, ne-eqb}
 use Rattle.engine_base.specs.Pick.{pick}
 use Rattle.engine_base.specs.Address.{addressOf}
 use Rattle.metroid_format.specs.Command.{data-limit}
 use Rattle.metroid_format.specs.Channel.{sourceOf, channelSource, readUntil, toldUntil}
 use Rattle.engine_base.specs.Told.{Answers}
 use Rattle.metroid_format.specs.Bank.{lengths-size}
+use Rattle.metroid_format.specs.Header.{openTrack}
+use Rattle.metroid_format.specs.Timeline.{soonestOf}
+use Rattle.metroid_format.specs.declared.bank.Places.{Places}
+use Rattle.metroid_format.specs.declared.header.Opened.{Opened}
 use Rattle.metroid_format.specs.declared.header.Voice.{Voice}
 use Rattle.metroid_format.specs.declared.header.Track.{Track}
 use Rattle.metroid_format.specs.declared.channel.Cursor.{Cursor}
 use Rattle.metroid_format.specs.declared.channel.Stop.{Stop}
 use Rattle.metroid_format.specs.declared.channel.Until.{Until}
 use Rattle.engine_base.proofs.Picks.{by-test, false-true, pick-true, pick-false, pick-eq, pick-ne}
-use Rattle.metroid_player.specs.Record.{four, endedPlayer, cursorOf, channelFits, channelsFit}
+use Rattle.metroid_player.specs.Record.{four, freshPlayer, endedPlayer, cursorOf, channelFits, channelsFit, most-frames, recordFits}
 use Rattle.metroid_player.specs.Event.{offEvent, eventOf}
-use Rattle.metroid_player.specs.Frame.{begun, turnBy, oneOff, turnOfUntil, turnOf, Settled, settled, settleOn, settleBy, settleTurn, settleFrom, eventless, framed}
+use Rattle.metroid_player.specs.Frame.{begun, turnBy, oneOff, turnOfUntil, turnOf, Settled, settled, settleOn, settleBy, settleTurn, settleFrom, eventless, framed, stopFrame, startOf}
 use Rattle.metroid_player.specs.declared.record.Channel.{Channel}
 use Rattle.metroid_player.specs.declared.event.Event.{Event}
 use Rattle.metroid_player.specs.declared.frame.Turned.{Turned}
@@ -91,6 +95,17 @@ module _ (vs : List Voice) (cs : List Channel) (i : ℕ) (m : Fitting vs cs i) w
   fit-all h =
       let v : length vs ≤ i = omega (arith, m .voices) in
       sym (m .same ∙ rw (drop-of-length-le vs v))
+
+-- what 16 leaves of a record
+pub fits-channels : (vs : List Voice) (p : Player) → recordFits vs p ≡ true → channelsFit vs (p .channels) ≡ true
+unfolding recordFits
+fits-channels vs p =
+    by-test Fits (leb (p .«frames_left») most-frames)
+    (λ _. by-test Fits (leb (p .«pass_length») most-frames) (λ _ f. f) λ _ z. absurd (false-true z)) λ _ z.
+    absurd (false-true z)
+  where
+    Fits : Bool → Type 0
+    Fits b = b ≡ true → channelsFit vs (p .channels) ≡ true
 
 -- what `read_until` answers of a channel's part of the bank
 pub reading-is : (bank : List ℕ) (track : Track) (v : Voice) (c : Channel)
@@ -168,19 +183,20 @@ module _ (bank : List ℕ) (track : Track) (player : Player) where
         let v : length (track .voices) ≤ i = omega (arith, m .voices-four) in
         rw (drop-of-length-le (track .voices) v)
 
-    pub settles-events : 4 ≤ i → record {
+    pub settles-events : 4 ≤ i → (less : ℕ) → less ≡ player .«frames_left» - 1 → record {
       answer = Answer.Events;
       events = events;
       counts = counts;
-      player = record { stopped = player .stopped; channels = channels };
+      «frames_left» = player .«frames_left»;
+      player = record { stopped = player .stopped; channels = channels; «frames_left» = less; «pass_length» = player .«pass_length» };
     } ≡ framed track player whole
-    settles-events h =
+    settles-events h less l =
         let e = settled-all h in
         let a : whole .answer ≡ Answer.Events = m .same-answer ∙ rw e in
         let s : sets (four offEvent) 0 (whole .events) ≡ events = m .same-events ∙ rw e in
         let n : sets (four 0) 0 (whole .counts) ≡ counts = m .same-counts ∙ rw e in
         let c : sets (player .channels) 0 (whole .channels) ≡ channels = m .same-channels ∙ rw e in
-        rw (a, s, n, c)
+        rw (a, s, n, c, l)
 
     module _ (h : i < 4) (dv : Voice) (dc : Channel) where
       abbrev voice : Voice
@@ -238,8 +254,8 @@ module _ (bank : List ℕ) (track : Track) (player : Player) where
             → Settling (set events i event) (set counts i (t .count)) (set channels i next) (i + 1)
         settling-plays e event f next g = settling-on event next (settled-by _ e ∙ rw (f, g))
 
-        pub settles-end : t .turned ≡ Turned.End → (ended : Player) → ended ≡ endedPlayer (track .restart)
-            → (f : Framed) → f ≡ eventless Answer.End (set counts i (t .count)) ended → f ≡ framed track player whole
+        pub settles-end : t .turned ≡ Turned.End → (ended : Player) → ended ≡ endedPlayer (track .restart) (player .«pass_length»)
+            → (f : Framed) → f ≡ eventless Answer.End (set counts i (t .count)) (player .«frames_left») ended → f ≡ framed track player whole
         settles-end e ended d f g =
             let s = settled-by _ e in
             let a : whole .answer ≡ Answer.End = m .same-answer ∙ rw s in
@@ -247,9 +263,21 @@ module _ (bank : List ℕ) (track : Track) (player : Player) where
             g ∙ rw (a, n, d)
 
         pub settles-fault : (number at address : ℕ) → t .turned ≡ Turned.Refused number at address
-            → (f : Framed) → f ≡ eventless (Answer.Fault number i at address) (set counts i (t .count)) player → f ≡ framed track player whole
+            → (f : Framed) → f ≡ eventless (Answer.Fault number i at address) (set counts i (t .count)) (player .«frames_left») player → f ≡ framed track player whole
         settles-fault number at address e f g =
             let s = settled-by _ e in
             let a : whole .answer ≡ Answer.Fault number i at address = m .same-answer ∙ rw s in
             let n : sets (four 0) 0 (whole .counts) ≡ set counts i (t .count) = m .same-counts ∙ rw s in
             g ∙ rw (a, n)
+
+-- what start answers; o is what `open` answers
+module _ (bank : List ℕ) (places : Places) (track : ℕ) (o : Opened) (e : o ≡ openTrack bank places track) where
+  pub started : o .number ≡ 0 → (length : ℕ) → length ≡ stopFrame (soonestOf bank (o .track)) → (player : Player) → player ≡ freshPlayer length →
+      record { number = o .number; player = player } ≡ startOf bank places track
+  unfolding startOf
+  started z length l player p = rw (← e, p, l, eq-eqb _ _ z)
+
+  pub not-started : (o .number ≡ 0 → ⊥) → (player : Player) → player ≡ freshPlayer 0 →
+      record { number = o .number; player = player } ≡ startOf bank places track
+  unfolding startOf
+  not-started z player p = rw (← e, p, ne-eqb _ _ z)

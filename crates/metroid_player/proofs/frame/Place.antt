@@ -21,7 +21,7 @@ use Rattle.metroid_format.specs.declared.header.Voice.{Voice}
 use Rattle.metroid_format.specs.declared.header.Track.{Track}
 use Rattle.metroid_format.specs.declared.channel.Cursor.{Cursor}
 use Rattle.metroid_format.specs.declared.channel.Stop.{Stop}
-use Rattle.metroid_player.specs.Record.{cursorOf, channelFits, channelsFit}
+use Rattle.metroid_player.specs.Record.{cursorOf, channelFits, channelsFit, recordFits}
 use Rattle.metroid_player.specs.Frame.{turnBy, turnOf, Settled, settleBy, settleFrom, framedBy, frameOfTrack, frameOf, of-track, of-record, AnswerWithin}
 use Rattle.metroid_player.specs.declared.record.Channel.{Channel}
 use Rattle.metroid_player.specs.declared.record.Player.{Player}
@@ -29,7 +29,7 @@ use Rattle.metroid_player.specs.declared.frame.Turned.{Turned}
 use Rattle.metroid_player.specs.declared.frame.Turn.{Turn}
 use Rattle.engine_base.specs.declared.answer.Answer.{Answer}
 use Rattle.metroid_player.specs.declared.frame.Framed.{Framed}
-use Rattle.metroid_player.proofs.frame.Laws.{next-fits, start-fits}
+use Rattle.metroid_player.proofs.frame.Laws.{next-fits, start-fits, fits-channels}
 
 abbrev TurnWithin : ℕ → Turned → Type 0
 TurnWithin start Turned.Off = Unit {0}
@@ -90,13 +90,13 @@ module _ (bank : List ℕ) (track : Track) (start : ℕ → ℕ) where
   track-within : (player : Player) → Opens bank start track → AnswerWithin start 4 (frameOfTrack bank track player .answer)
   unfolding frameOfTrack
   track-within player o =
-      by-test (λ (f : Framed). AnswerWithin start 4 (f .answer)) (channelsFit (track .voices) (player .channels))
+      by-test (λ (f : Framed). AnswerWithin start 4 (f .answer)) (recordFits (track .voices) player)
       (λ f.
       by-test (λ (f : Framed). AnswerWithin start 4 (f .answer)) (eqb (player .stopped) 0)
       (λ _.
       let s = settleFrom bank track 0 (track .voices) (player .channels) in
       framed-within player s (s .answer)
-      (settle-within 4 0 (track .voices) (player .channels) (omega (arith, o .four)) (o .starts) f)) λ _.
+      (settle-within 4 0 (track .voices) (player .channels) (omega (arith, o .four)) (o .starts) (fits-channels (track .voices) player f))) λ _.
       tt) λ _.
       of-record
 

@@ -18,7 +18,7 @@ use Rattle.metroid_format.specs.declared.header.Voice.{Voice}
 use Rattle.metroid_format.specs.declared.header.Track.{Track}
 use Rattle.metroid_format.specs.declared.channel.Cursor.{Cursor}
 use Rattle.metroid_format.specs.declared.channel.Stop.{Stop}
-use Rattle.metroid_player.specs.Record.{four, freshChannel, cursorOf, channelsFit}
+use Rattle.metroid_player.specs.Record.{four, freshChannel, cursorOf, recordFits}
 use Rattle.metroid_player.specs.Event.{offEvent, eventOf}
 use Rattle.metroid_player.specs.Frame.{oneOff, turnBy, turnOf, Settled, settleBy, settleTurn, settleFrom, framedBy, frameOfTrack}
 use Rattle.engine_base.specs.Answer.{answerKind}
@@ -159,7 +159,7 @@ module _ (bank : List ℕ) (track : Track) where
     pub frame-plays : Plays (frameOfTrack bank track player)
     unfolding frameOfTrack
     frame-plays =
-        by-test Plays (channelsFit (track .voices) (player .channels))
+        by-test Plays (recordFits (track .voices) player)
         (λ _.
         by-test Plays (eqb (player .stopped) 0)
         (λ _.

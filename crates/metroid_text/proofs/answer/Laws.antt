@@ -6,10 +6,22 @@ use native.Mathlib.Omega.{arith}
 use lib.ListN.{length, getD}
 use Rattle.metroid_player.specs.Event.{toldEvent}
 use Rattle.engine_base.specs.Answer.{answerPlace}
+use Rattle.engine_base.specs.declared.answer.Answer.{Answer}
 use Rattle.metroid_player.specs.declared.event.Event.{Event}
 use Rattle.metroid_player.specs.declared.frame.Framed.{Framed}
 use Rattle.metroid_text.specs.Line.{newline, each, Spells, Puts}
-use Rattle.metroid_text.specs.Answer.{afterBar, refusalAndKind, eventText, answerLine, kind-most, group-most, event-most, events-most}
+use Rattle.metroid_text.specs.Answer.{
+  afterBar,
+  refusalAndKind,
+  placeAndLeft,
+  eventText,
+  answerLine,
+  kind-most,
+  group-most,
+  place-most,
+  event-most,
+  events-most,
+}
 use Rattle.metroid_text.proofs.line.Laws.{Putting, putting-more, putting-done, puts-within, spelled}
 
 pub four : (l : List ℕ) → length l ≡ 4 → getD l 0 0 ∷ getD l 1 0 ∷ getD l 2 0 ∷ getD l 3 0 ∷ [] ≡ l
@@ -36,11 +48,17 @@ module _ (events : List Event) (before : List ℕ) (at : ℕ) (now : List ℕ) (
     pub events-done : 4 ≤ i → Puts events-most (each eventText events) before at next now
     events-done h = puts-within (putting-done event-most eventText events before at now i next p (omega arith)) (omega arith)
 
-pub answer-spelled : (f : Framed) (counts place before : List ℕ) (count : ℕ) (after : List ℕ) →
-    Puts (kind-most + group-most (length counts) + group-most (length place) + events-most + 1)
-    (refusalAndKind (f .answer) ++ afterBar counts ++ afterBar place ++ each eventText (f .events) ++ newline) before 0 count after →
-    counts ≡ f .counts → length counts ≡ 4 → place ≡ answerPlace (f .answer) → length place ≡ 3 → Spells (answerLine f) before count after
+pub answer-spelled : (f : Framed) (counts before : List ℕ) (count : ℕ) (after : List ℕ) →
+    Puts (kind-most + group-most (length counts) + place-most + events-most + 1)
+    (refusalAndKind (f .answer) ++ afterBar counts ++ placeAndLeft (f .answer) (f .«frames_left») ++ each eventText (f .events) ++ newline)
+    before 0 count after →
+    counts ≡ f .counts → length counts ≡ 4 → Spells (answerLine f) before count after
 unfolding answerLine
-answer-spelled f counts place before count after p c four a three =
+answer-spelled f counts before count after p c four =
     let q = spelled p (omega arith) in
-    rw (← c, ← a) q
+    rw (← c) q
+
+pub place-put : (answer : Answer) (place : List ℕ) (left : ℕ) {before after : List ℕ} {at next : ℕ} →
+    Puts (group-most (length place) + group-most 1) (afterBar place ++ afterBar (left ∷ [])) before at next after →
+    place ≡ answerPlace answer → length place ≡ 3 → Puts place-most (placeAndLeft answer left) before at next after
+place-put answer place left p a three = rw a at (puts-within {n = place-most} p (omega arith))

@@ -1,4 +1,4 @@
--- `hemgosling::hem_start` meets its contract: a walk of its MIR. The borrow is opened, the record is copied out and passed to `play::started_of`, and the borrow is closed at the record that it returned.
+-- `hemgosling::hem_start` meets its contract: a walk of its MIR. The borrow is opened, `play::started_of` is called, and the borrow is closed at the record that it returned.
 -- All that the proof knows of `play::started_of` is that it meets its contract. Assumes nothing.
 use mathlib.Core.Path.{_≡_, refl, ap}
 use Prim.Native.Nat.{ℕ, _<_, _^_}
@@ -42,6 +42,7 @@ use denote.Triple.Walked.{says, Stays, stay-ref, stay-none, stay-none-slice, gav
 use denote.Exit.{yes}
 use Rattle.metroid_player.specs.Frame.{startOf}
 use Rattle.hemgosling.specs.Places.{placesOf}
+use Rattle.hemgosling.specs.Play.{Starting}
 use Rattle.metroid_player.specs.declared.record.Player.{Player}
 use Rattle.metroid_player.specs.declared.frame.Started.{Started}
 use Rattle.metroid_player.proofs.record.Player as T
@@ -96,12 +97,12 @@ module _ {M : Type 1} (𝓤 : URA M) (H : Heap 𝓤) (A : Atoms 𝓤) (W : Given
   asked : ent 𝓤 (⋆ 𝓤 H A (toks ∷ ‵ Passed ∷ [])) (Callee 𝓤 H A at-mem run .pre to)
   asked = qed W (toks ∷ ‵ Passed ∷ []) ∵ join ! $ frame ! $ done !
 
-  exits : (r : Started) → r ≡ found → r .number < 2 ^ 32
+  exits : (r : Started) → Starting (bank .now) (placesOf offsets block lengths periods presets envelopes count default1 default2) track r → r .number < 2 ^ 32
       → ent 𝓤 (⋆ 𝓤 H A (‵ (fobs γ (T.the-row .coded .code (r .player))) ∷ ‵ (fbor κ (Body (mem T.the-row) b o γ)) ∷ ‵ (flft κ q) ∷ toks ∷ ‵ Own ∷ [])) (Post (vint w32 (r .number)))
   exits r e small =
       qed W (‵ (fobs γ (T.the-row .coded .code (r .player))) ∷ ‵ (fbor κ (Body (mem T.the-row) b o γ)) ∷ ‵ (flft κ q) ∷ toks ∷ ‵ Own ∷ []) ∵
       suffices ! _ (ends-at 𝓤 H A f.ended stayed (f.clauses 𝓤 H A at-mem run) W (((κ, (κ1, tt)), (q, (q1, tt)), tt, x, at), tt) (vint w32 (r .number)) (r .number) (r .player, (tt, (tt, (tt, (tt, (tt, (tt, (tt, (tt, (tt, (tt, (tt, tt)))))))))))) (tt, (tt, (tt, (tt, (tt, (tt, (tt, (tt, (tt, (tt, (tt, (tt, tt))))))))))))) $
-      says ! (record { says = ap (λ (z : Started). z .number) (e); fresh = ap (λ (z : Started). z .player) (e) }) $ move ! (2 ∷ 3 ∷ []) $ join ! $ frame ! $
+      says ! (record { says = ap (λ (z : Started). z .number) (e .finds); fresh = ap (λ (z : Started). z .player) (e .finds); countdown = (e .countdown) }) $ move ! (2 ∷ 3 ∷ []) $ join ! $ frame ! $
       feqI ! (List Val) (vptr b o ∷ []) (vptr b o ∷ []) refl $ fjoin3 ! $ nothing ! $ owned ! u8 (Is u8) (uint-makes 𝓤 H A W w8) default2 _ (refl, default2-fits) $ fjoin ! $ owned ! u8 (Is u8) (uint-makes 𝓤 H A W w8) default1 _ (refl, default1-fits) $ fjoin ! $ owned ! u32 (Is u32) (uint-makes 𝓤 H A W w32) track _ (refl, track-fits) $ fjoin ! $ owned ! u32 (Is u32) (uint-makes 𝓤 H A W w32) count _ (refl, count-fits) $ fjoin ! $ owned ! u32 (Is u32) (uint-makes 𝓤 H A W w32) envelopes _ (refl, envelopes-fits) $ fjoin ! $ owned ! u32 (Is u32) (uint-makes 𝓤 H A W w32) presets _ (refl, presets-fits) $ fjoin ! $ owned ! u32 (Is u32) (uint-makes 𝓤 H A W w32) periods _ (refl, periods-fits) $ fjoin ! $ owned ! u32 (Is u32) (uint-makes 𝓤 H A W w32) lengths _ (refl, lengths-fits) $ fjoin ! $ owned ! u32 (Is u32) (uint-makes 𝓤 H A W w32) block _ (refl, block-fits) $ fjoin ! $ owned ! u32 (Is u32) (uint-makes 𝓤 H A W w32) offsets _ (refl, offsets-fits) $ fjoin ! $ move ! (2 ∷ 0 ∷ []) $ fjoin ! $ move ! (1 ∷ 0 ∷ []) $ fjoin ! $ owned ! u32 (Is u32) (uint-makes 𝓤 H A W w32) (r .number) _ (refl, small) $ move ! (1 ∷ 0 ∷ []) $ done !
 
   -- what whoever holds the callee's result knows of its fields
@@ -127,8 +128,8 @@ module _ {M : Type 1} (𝓤 : URA M) (H : Heap 𝓤) (A : Atoms 𝓤) (W : Given
         calls-at ! fm (Callee 𝓤 H A at-mem run) known to (and-then ! (load ! (from ! (stop !)) (look ! 28 refl)) (and-then ! (load ! (from ! (stop !)) (look ! 26 refl)) (and-then ! (load ! (from ! (stop !)) (look ! 24 refl)) (and-then ! (load ! (from ! (stop !)) (look ! 22 refl)) (and-then ! (load ! (from ! (stop !)) (look ! 20 refl)) (and-then ! (load ! (from ! (stop !)) (look ! 18 refl)) (and-then ! (load ! (from ! (stop !)) (look ! 16 refl)) (and-then ! (load ! (from ! (stop !)) (look ! 14 refl)) (and-then ! (load ! (from ! (stop !)) (look ! 12 refl)) (and-then ! (load ! (from ! (stop !)) (look ! 10 refl)) (and-then ! (load ! (from ! (stop !)) (look ! 8 refl)) (no-more !)))))))))))) (λ w.
         use1 W (later (some (λ (r : Started). (toks ⊛ ‵ (F.the-row .own r (w ∷ []))) ⊛ raw (ensured 𝓤 H A g.ended (g.clauses 𝓤 H A at-mem run) (κ1, tt) (bank, (offsets, (block, (lengths, (periods, (presets, (envelopes, (count, (track, (default1, (default2, tt))))))))))) tt r)))) (id⊢ 𝓤 _) $ await ! tt $ pick ! (λ r.
         -- what the callee ensures, at some last lists
-        split ! $ move ! (1 ∷ []) $ use1 W (some (λ (zs : Unit {0} × (Unit {0} × (Unit {0} × (Unit {0} × (Unit {0} × (Unit {0} × (Unit {0} × (Unit {0} × (Unit {0} × (Unit {0} × (Unit {0} × Unit {0}))))))))))). ‵ (lasts g.ended (κ1, tt) (bank, (offsets, (block, (lengths, (periods, (presets, (envelopes, (count, (track, (default1, (default2, tt))))))))))) zs) ⊛ raw (fact 𝓤 (r ≡ found)))) (id⊢ 𝓤 _) $ pick ! (λ zs.
-        split ! $ move ! (1 ∷ []) $ heard ! (r ≡ found) (λ e. fsplit ! $ drop ! $ fsplit ! $ drop ! $ fsplit ! $ drop ! $ fsplit ! $ drop ! $ fsplit ! $ drop ! $ fsplit ! $ drop ! $ fsplit ! $ drop ! $ fsplit ! $ drop ! $ fsplit ! $ drop ! $ fsplit ! $ drop ! $ fsplit ! $ drop ! $ drop ! $
+        split ! $ move ! (1 ∷ []) $ use1 W (some (λ (zs : Unit {0} × (Unit {0} × (Unit {0} × (Unit {0} × (Unit {0} × (Unit {0} × (Unit {0} × (Unit {0} × (Unit {0} × (Unit {0} × (Unit {0} × Unit {0}))))))))))). ‵ (lasts g.ended (κ1, tt) (bank, (offsets, (block, (lengths, (periods, (presets, (envelopes, (count, (track, (default1, (default2, tt))))))))))) zs) ⊛ raw (fact 𝓤 (Starting (bank .now) (placesOf offsets block lengths periods presets envelopes count default1 default2) track r)))) (id⊢ 𝓤 _) $ pick ! (λ zs.
+        split ! $ move ! (1 ∷ []) $ heard ! (Starting (bank .now) (placesOf offsets block lengths periods presets envelopes count default1 default2) track r) (λ e. fsplit ! $ drop ! $ fsplit ! $ drop ! $ fsplit ! $ drop ! $ fsplit ! $ drop ! $ fsplit ! $ drop ! $ fsplit ! $ drop ! $ fsplit ! $ drop ! $ fsplit ! $ drop ! $ fsplit ! $ drop ! $ fsplit ! $ drop ! $ fsplit ! $ drop ! $ drop ! $
         move ! (0 ∷ []) $ split ! $ move ! (1 ∷ []) $
         -- [the result; the tokens; the last lists; what the slice owns; the cell; the open borrow; obs; auth; the locals]
         peeks ! F.the-row (Is F.the-row) (shows 𝓤 H A F.the-row) r (w ∷ []) (λ is.

@@ -12,6 +12,6 @@ melodic-note-spec =
     (λ c κs. search needs)
     (λ c κs. search needs)
     (λ c κs. search needs)
-    (λ c. rw (c .release-of .ensures, c .before .before .period-at .ensures, c .before .before .before .part .ensures) (search picks depth 12))
     (λ c κs. search needs)
+    (λ c. rw (c .release-of .ensures, c .before .before .period-at .ensures, c .before .before .before .part .ensures) (search picks depth 12))
     (λ c. rw (c .note-ctrl1 .ensures, c .before .before .period-at .ensures, c .before .before .before .part .ensures) (search picks depth 12)))

@@ -8,10 +8,10 @@ use Rattle.metroid_player.proofs.frame.settle.Statement.{statement}
 use Rattle.metroid_player.proofs.frame.settle.Tie as tie
 
 abbrev Inv-loop : tie.InvT-loop
-Inv-loop bank player track channels₀ off events₀ counts₀ i₀ channels events counts i = Settling bank track player events counts channels i
+Inv-loop bank track player voices channels₀ off events₀ counts₀ i₀ channels events counts i = Settling bank track player events counts channels i
 
 abbrev μ-loop : tie.MeasureT-loop
-μ-loop bank player track channels₀ off events₀ counts₀ i₀ channels events counts i = 4 - i
+μ-loop bank track player voices channels₀ off events₀ counts₀ i₀ channels events counts i = 4 - i
 
 pub settle-spec : {M : Type 1} → statement M
 settle-spec =
@@ -22,9 +22,9 @@ settle-spec =
     (λ c κs. search needs)
     (λ c.
     let o = c .off .ensures in
-    let a = c .before .before .before .args in
-    settling-none (now (a .bank)) (a .t2) (a .player) (simp length-map at (c .before .before .before .good .1 .0 .1 .1 .1 .1 .1 .1 .1 .1 .0 .1 .0 .1))
-    (simp length-map at (c .before .before .before .good .1 .1 .0 .1 .1 .1 .0 .1 .0 .1)) _ (rw o))
+    let a = c .before .before .before .before .args in
+    settling-none (now (a .bank)) (a .track) (a .player) (simp length-map at (c .before .before .before .before .good .1 .0 .1 .1 .1 .1 .1 .1 .1 .1 .0 .1 .0 .1))
+    (simp length-map at (c .before .before .before .before .good .1 .1 .0 .1 .1 .1 .0 .1 .0 .1)) _ (rw o))
     (λ c. omega arith)
     (λ c. omega arith)
     (λ c. omega arith)
@@ -69,4 +69,6 @@ settle-spec =
     let l = c .before .before .before .before .before .before .before in
     settles-fault _ _ _ _ _ _ _ (l .before .loop .inv) (l .loop-test .taken) _ _ _ (c .before .before .before .before .take-turn .ensures)
     _ _ _ (c .before .before .turned .given .1) _ (c .without-events2 .ensures))
-    (λ c. settles-events _ _ _ _ _ _ _ (c .before .loop .inv) (c .loop-test .left)))
+    (λ c κs. search needs)
+    (λ c.
+    settles-events _ _ _ _ _ _ _ (c .before .before .loop .inv) (c .before .loop-test .left) _ (c .one-less .ensures)))

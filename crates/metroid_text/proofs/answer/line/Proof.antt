@@ -13,8 +13,6 @@ line-spec =
     (λ c. search needs)
     (λ c κs. search needs)
     (λ c κs. search needs)
-    (λ c. search needs)
-    (λ c κs. search needs)
     (λ c κs. search needs)
     (λ c. search needs)
     (λ c κs. search needs)
@@ -22,17 +20,14 @@ line-spec =
     (λ c.
     let events = c .before .before .before .before .before .before .before in
     let place = events .before .before .before .before in
-    let counts = place .before .before .before .before .before .before in
+    let counts = place .before .before .before .before in
     let kind = counts .before .before .before .before .before .before in
     let wide = counts .before .before .before .wide in
-    let place-of = place .before .before .before .place-of in
-    answer-spelled _ _ _ _ _ _
+    answer-spelled _ _ _ _ _
     (puts-then
     (puts-then
-    (puts-then (puts-then (kind .put-kind .ensures) (counts .put-group .ensures)) (place .put-group2 .ensures))
+    (puts-then (puts-then (kind .put-kind .ensures) (counts .put-group .ensures)) (place .put-place .ensures))
     (events .put-events .ensures))
     (c .before .before .append .ensures))
     (wide .ensures)
-    (search needs)
-    (place-of .ensures)
     (search needs)))

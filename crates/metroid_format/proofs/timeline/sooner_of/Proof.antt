@@ -1,7 +1,7 @@
 use borrow.Author.Needs.{needs}
 use Rattle.engine_base.proofs.Picks.{picks}
-use Rattle.metroid_check.proofs.verdict.sooner_of.Statement.{statement}
-use Rattle.metroid_check.proofs.verdict.sooner_of.Tie as tie
+use Rattle.metroid_format.proofs.timeline.sooner_of.Statement.{statement}
+use Rattle.metroid_format.proofs.timeline.sooner_of.Tie as tie
 
 pub sooner-of-spec : {M : Type 1} → statement M
 sooner-of-spec =

@@ -2,12 +2,12 @@ use Prim.Native.Nat.{ℕ, _≤_}
 use native.Mathlib.Omega.{arith}
 use borrow.Author.Needs.{needs}
 use lib.Seq.{take-take}
 use Rattle.metroid_format.specs.Command.{data-limit}
-use Rattle.metroid_check.proofs.verdict.timeline_of.Statement.{statement}
-use Rattle.metroid_check.proofs.verdict.timeline_of.Tie as tie
+use Rattle.metroid_format.proofs.timeline.channel_timeline.Statement.{statement}
+use Rattle.metroid_format.proofs.timeline.channel_timeline.Tie as tie
 
-pub timeline-of-spec : {M : Type 1} → statement M
-timeline-of-spec =
+pub channel-timeline-spec : {M : Type 1} → statement M
+channel-timeline-spec =
     tie.close
     (tie.spec
     (λ c. search needs)

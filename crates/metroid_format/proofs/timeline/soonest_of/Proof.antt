@@ -3,9 +3,10 @@ use mathlib.Core.Path.{refl}
 use native.Mathlib.Omega.{arith}
 use borrow.Author.Needs.{needs}
 use lib.ListN.{length-map}
-use Rattle.metroid_check.proofs.verdict.Laws.{Looking, look-on, looked}
-use Rattle.metroid_check.proofs.verdict.soonest_of.Statement.{statement}
-use Rattle.metroid_check.proofs.verdict.soonest_of.Tie as tie
+use Rattle.engine_base.proofs.Picks.{answers}
+use Rattle.metroid_format.proofs.timeline.FirstStop.{Looking, look-on, looked}
+use Rattle.metroid_format.proofs.timeline.soonest_of.Statement.{statement}
+use Rattle.metroid_format.proofs.timeline.soonest_of.Tie as tie
 
 abbrev Inv-loop : tie.InvT-loop
 Inv-loop bank track voices soonest₀ i₀ soonest i = Looking bank track (track .voices) i soonest
@@ -27,4 +28,4 @@ soonest-of-spec =
     (λ c. omega arith)
     (λ c. omega arith)
     (λ c. search look-on depth 8)
-    (λ c. search looked depth 8))
+    (λ c. answers _ _ _ (looked _ _ _ _ _ (c .before .loop .inv) (c .loop-test .left))))
