@@ -19,12 +19,21 @@ use Rattle.metroid_format.specs.declared.header.Track.{Track}
 use Rattle.metroid_format.specs.declared.timeline.Finish.{Finish}
 use Rattle.metroid_format.specs.declared.timeline.Soonest.{Soonest}
 use Rattle.metroid_player.specs.Record.{freshPlayer, most-frames}
-use Rattle.metroid_player.specs.Frame.{startOf, frameOf, frameOfTrack}
+use Rattle.metroid_player.specs.Frame.{unplayed, startOf, frameOf, frameOfTrack}
 use Rattle.metroid_player.specs.declared.record.Player.{Player}
 use Rattle.metroid_player.specs.declared.frame.Framed.{Framed}
 use Rattle.metroid_player.proofs.frame.Left.{track-left}
 use Rattle.metroid_check.specs.Run.{framesFrom, runOf}
-use Rattle.metroid_check.specs.Countdown.{leftForeseen, ZeroAtEnd, ZeroForeseen, NumbersWithin, CountsDown, EachFrom, Countdown}
+use Rattle.metroid_check.specs.Countdown.{
+  leftForeseen,
+  ZeroWithoutEvents,
+  ZeroAtEnd,
+  ZeroForeseen,
+  NumbersWithin,
+  CountsDown,
+  EachFrom,
+  Countdown,
+}
 use Rattle.metroid_check.specs.Demand3.{Foreseen}
 use Rattle.metroid_check.specs.Verdict.{verdictBy, verdictOf, VerdictWithin}
 use Rattle.metroid_check.specs.declared.verdict.Verdict.{Verdict}
@@ -75,6 +84,9 @@ module _ (restart : Bool) (length i : ℕ) where
       by true = z
       by false = λ _. z
 
+no-events : (f : Framed) → 0 < answerKind (f .answer) → f .«frames_left» ≡ 0 → ZeroWithoutEvents f
+no-events f h left = ((λ z e. let events : answerKind (f .answer) ≡ 0 = ap answerKind e in omega arith), (λ _. left))
+
 -- a fault's number is below 16
 abbrev FaultNumber : Finish → Type 0
 FaultNumber Finish.End = Unit {0}
@@ -104,11 +116,18 @@ module _ (bank : List ℕ) (track : Track) (s : Starts bank track) (i length : �
 
     -- the clock after a frame
     count-on : {finish : Finish} {o after : Outlook} → CountsOn n (k + 1) finish → f .«frames_left» ≡ leftOf o →
-        Clock (track .restart) length k finish o → ZeroForeseen (track .restart) (verdict (track .restart) length i finish) k f →
+        Clock (track .restart) length k finish o → ZeroWithoutEvents f →
+        ZeroForeseen (track .restart) (verdict (track .restart) length i finish) k f →
         (answerNumber (f .answer) ≡ invalid-record → ⊥) → Stands bank track i length (f .player) finish after →
         Clock (track .restart) length (k + 1) finish after → Counted finish
-    count-on later left c z fits after c′ = (
-      record { shown = left ∙ clock-left (track .restart) length i c; zero = z; numbers = stands-numbers after; fits = fits },
+    count-on later left c silent z fits after c′ = (
+      record {
+        shown = left ∙ clock-left (track .restart) length i c;
+        silent = silent;
+        zero = z;
+        numbers = stands-numbers after;
+        fits = fits;
+      },
       later _ _ after c′,
     )
 
@@ -118,7 +137,7 @@ module _ (bank : List ℕ) (track : Track) (s : Starts bank track) (i length : �
     count-plays {finish} later left c a after c′ =
         let events : answerKind (f .answer) ≡ 0 = ap answerKind a in
         let none : answerNumber (f .answer) ≡ 0 = ap answerNumber a in
-        count-on later left c
+        count-on later left c ((λ z _. omega arith), (λ n. absurd (n a)))
         (exactly (track .restart) length i finish k f
         ((λ z. absurd (omega arith)), (λ e. let end : answerKind (f .answer) ≡ 1 = ap answerKind e in absurd (omega arith))))
         (λ z. omega arith) after c′
@@ -128,7 +147,8 @@ module _ (bank : List ℕ) (track : Track) (s : Starts bank track) (i length : �
         Stands bank track i length (f .player) Finish.End after → Clock (track .restart) length (k + 1) Finish.End after → Counted Finish.End
     count-ends later left c a after c′ =
         let none : answerNumber (f .answer) ≡ 0 = ap answerNumber a in
-        count-on later left c (exactly (track .restart) length i Finish.End k f ((λ _. a), (λ _. left))) (λ z. omega arith) after c′
+        count-on later left c (no-events f (rw a (omega arith)) left)
+        (exactly (track .restart) length i Finish.End k f ((λ _. a), (λ _. left))) (λ z. omega arith) after c′
 
     count-step : {finish : Finish} {o : Outlook} → CountsOn n (k + 1) finish → FaultNumber finish → f .«frames_left» ≡ leftOf o →
         Steps bank track i length f finish o → Clock (track .restart) length k finish o → Counted finish
@@ -143,10 +163,11 @@ module _ (bank : List ℕ) (track : Track) (s : Starts bank track) (i length : �
     count-step later b left (ends r a c after) (once e h) = count-ends later left (once e h) a after (past e (omega arith))
     count-step later b left (faults a after) (until h) =
         let number : answerNumber (f .answer) ≡ _ = ap answerNumber a in
-        count-on later left (until h) tt (λ z. omega arith) after (until (omega arith))
+        count-on later left (until h) (no-events f (rw a (omega arith)) left) tt (λ z. omega arith) after (until (omega arith))
     count-step later b left (stays a after) (past e h) =
         let none : answerNumber (f .answer) ≡ 0 = ap answerNumber a in
-        count-on later left (past e h) (rw e (λ g. absurd (omega arith))) (λ z. omega arith) after (past e (omega arith))
+        count-on later left (past e h) (no-events f (rw a (omega arith)) left) (rw e (λ g. absurd (omega arith))) (λ z. omega arith) after
+        (past e (omega arith))
 
   counts : {finish : Finish} → FaultNumber finish → Least (map (aheadOf bank track) (track .voices)) length i finish → (n k : ℕ) → CountsOn n k finish
   unfolding framesFrom
@@ -170,7 +191,13 @@ module _ (bank : List ℕ) (places : Places) (track : ℕ) where
   shut-counts e (suc n) k =
       let below = unopened bank places track e in
       rw (unopened-frame bank places track (freshPlayer 0) e) (
-        record { shown = refl; zero = tt; numbers = (omega arith, omega arith); fits = λ z. omega (arith, below .1) },
+        record {
+          shown = refl;
+          silent = no-events (unplayed (Answer.Refused (openTrack bank places track .number)) (freshPlayer 0)) (omega arith) refl;
+          zero = tt;
+          numbers = (omega arith, omega arith);
+          fits = λ z. omega (arith, below .1);
+        },
         shut-counts e n (k + 1),
       )
 

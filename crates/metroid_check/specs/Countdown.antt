@@ -21,6 +21,11 @@ leftForeseen restart (Verdict.Pass frame channel) j = pick restart (frame - j % 
 leftForeseen restart (Verdict.Refused number) j = 0
 leftForeseen restart (Verdict.Fault number channel at frame address) j = frame - j
 
+-- 0 is shown exactly by a frame without events
+abbrev pub ZeroWithoutEvents : Framed → Type 0
+ZeroWithoutEvents f =
+    (f .«frames_left» ≡ 0 → f .answer ≡ Answer.Events → ⊥) × ((f .answer ≡ Answer.Events → ⊥) → f .«frames_left» ≡ 0)
+
 -- 0 is shown exactly with the answer End
 abbrev pub ZeroAtEnd : Framed → Type 0
 ZeroAtEnd f = (f .«frames_left» ≡ 0 → f .answer ≡ Answer.End) × (f .answer ≡ Answer.End → f .«frames_left» ≡ 0)
@@ -39,6 +44,7 @@ NumbersWithin player = (player .«frames_left» ≤ most-frames) × (player .«p
 -- frame j of a run; none is refused under 16
 pub record CountsDown (restart : Bool) (verdict : Verdict) (j : ℕ) (f : Framed) : Type 0 where
   pub shown : f .«frames_left» ≡ leftForeseen restart verdict j
+  pub silent : ZeroWithoutEvents f
   pub zero : ZeroForeseen restart verdict j f
   pub numbers : NumbersWithin (f .player)
   pub fits : answerNumber (f .answer) ≡ invalid-record → ⊥
