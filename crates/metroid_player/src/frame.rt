@@ -25,7 +25,7 @@ ghost use Prim.Native.Nat.{_-_};
 ghost use Rattle.metroid_format.specs.Command.{data-limit};
 ghost use Rattle.metroid_format.specs.Channel.{channelSource, readUntil};
 ghost use Rattle.metroid_format.specs.Timeline.{soonestOf};
-ghost use Rattle.metroid_player.specs.Record.{cursorOf, channelsFit, recordFits};
+ghost use Rattle.metroid_player.specs.Record.{cursorOf};
 ghost use Rattle.metroid_player.specs.Frame.{begun, oneOff, turnOfUntil, turnOf, eventless, settleFrom, framed, frameOfTrack, frameOf, stopFrame, startOf, toldFramed, toldStarted};
 ghost use Rattle.engine_base.specs.Told.{Answers};
 
@@ -171,37 +171,6 @@ fn take_turn(bank: &[u8], track: Track, voice: Voice, channel: Channel) -> Turn
     }
 }
 
-// What 16 tests of the used channels.
-fn channels_fit(voices: [Voice; 4], channels: [Channel; 4]) -> bool
-    ensures { λ r. ⌜ r ≡ channelsFit voices channels ⌝ }
-{
-    let mut i: usize = 0;
-    while i < 4 {
-        let voice = voices[i];
-        let channel = channels[i];
-        if record::channel_fits(voice, channel) {
-            i += 1;
-        } else {
-            return false;
-        }
-    }
-    true
-}
-
-// What 16 tests.
-fn record_fits(voices: [Voice; 4], player: Player) -> bool
-    ensures { λ r. ⌜ r ≡ recordFits voices player ⌝ }
-{
-    if record::MOST_FRAMES < player.frames_left {
-        return false;
-    }
-    if record::MOST_FRAMES < player.pass_length {
-        return false;
-    }
-    let channels = player.channels;
-    channels_fit(voices, channels)
-}
-
 // One less, never below 0.
 fn one_less(frames: u32) -> u32
     ensures { λ r. ⌜ r ≡ frames - 1 ⌝ }
@@ -290,7 +259,7 @@ fn frame_of_track(bank: &[u8], track: Track, player: Player) -> Framed
 {
     let voices = track.voices;
     let none = [0u32; 4];
-    if record_fits(voices, player) {
+    if record::record_fits(voices, player) {
         if player.stopped == 0 {
             return settle(bank, track, player);
         }

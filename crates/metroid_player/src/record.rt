@@ -4,7 +4,7 @@ use metroid_format::channel::Cursor;
 use metroid_format::command;
 use metroid_format::header::Voice;
 ghost use mathlib.Core.Path.{_≡_};
-ghost use Rattle.metroid_player.specs.Record.{freshChannel, freshPlayer, endedPlayer, cursorOf, channelFits};
+ghost use Rattle.metroid_player.specs.Record.{freshChannel, freshPlayer, endedPlayer, cursorOf, channelFits, channelsFit, recordFits};
 
 #[repr(C)]
 pub struct Channel {
@@ -30,9 +30,9 @@ pub struct Player {
 }
 
 // What either number may be.
-pub(crate) const MOST_FRAMES: u32 = 16777216;
+const MOST_FRAMES: u32 = 16777216;
 
-pub(crate) fn fresh_channel() -> Channel
+fn fresh_channel() -> Channel
     ensures { λ r. ⌜ r ≡ freshChannel ⌝ }
 {
     let none = Frames { count: 0 };
@@ -84,7 +84,7 @@ pub(crate) fn cursor_of(channel: Channel) -> Cursor
 }
 
 // What is not refused under 16: an unused channel, or offsets within the data's limit and a note that can be sounding.
-pub(crate) fn channel_fits(voice: Voice, channel: Channel) -> bool
+fn channel_fits(voice: Voice, channel: Channel) -> bool
     ensures { λ r. ⌜ r ≡ channelFits voice channel ⌝ }
 {
     let used = voice.used;
@@ -105,4 +105,35 @@ pub(crate) fn channel_fits(voice: Voice, channel: Channel) -> bool
         return command::is_note(kind, channel.sounding);
     }
     true
+}
+
+// What 16 tests of the used channels.
+fn channels_fit(voices: [Voice; 4], channels: [Channel; 4]) -> bool
+    ensures { λ r. ⌜ r ≡ channelsFit voices channels ⌝ }
+{
+    let mut i: usize = 0;
+    while i < 4 {
+        let voice = voices[i];
+        let channel = channels[i];
+        if channel_fits(voice, channel) {
+            i += 1;
+        } else {
+            return false;
+        }
+    }
+    true
+}
+
+// What 16 tests.
+pub(crate) fn record_fits(voices: [Voice; 4], player: Player) -> bool
+    ensures { λ r. ⌜ r ≡ recordFits voices player ⌝ }
+{
+    if MOST_FRAMES < player.frames_left {
+        return false;
+    }
+    if MOST_FRAMES < player.pass_length {
+        return false;
+    }
+    let channels = player.channels;
+    channels_fit(voices, channels)
 }

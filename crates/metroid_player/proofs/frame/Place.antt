@@ -29,7 +29,7 @@ use Rattle.metroid_player.specs.declared.frame.Turned.{Turned}
 use Rattle.metroid_player.specs.declared.frame.Turn.{Turn}
 use Rattle.engine_base.specs.declared.answer.Answer.{Answer}
 use Rattle.metroid_player.specs.declared.frame.Framed.{Framed}
-use Rattle.metroid_player.proofs.frame.Laws.{next-fits, start-fits, fits-channels}
+use Rattle.metroid_player.proofs.record.Laws.{next-fits, start-fits, fits-channels}
 
 abbrev TurnWithin : ℕ → Turned → Type 0
 TurnWithin start Turned.Off = Unit {0}

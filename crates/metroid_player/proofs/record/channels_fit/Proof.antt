@@ -2,9 +2,9 @@ use Prim.Native.Nat.{_-_}
 use mathlib.Core.Path.{refl}
 use native.Mathlib.Omega.{arith}
 use borrow.Author.Needs.{needs}
-use Rattle.metroid_player.proofs.frame.Laws.{Fitting, fit-more, fit-not, fit-all}
-use Rattle.metroid_player.proofs.frame.channels_fit.Statement.{statement}
-use Rattle.metroid_player.proofs.frame.channels_fit.Tie as tie
+use Rattle.metroid_player.proofs.record.Laws.{Fitting, fit-more, fit-not, fit-all}
+use Rattle.metroid_player.proofs.record.channels_fit.Statement.{statement}
+use Rattle.metroid_player.proofs.record.channels_fit.Tie as tie
 
 abbrev Inv-loop : tie.InvT-loop
 Inv-loop voices channels i₀ i = Fitting voices channels i
