@@ -6,7 +6,6 @@ use mathlib.Core.Path.{_≡_, refl, sym, ap, _∙_}
 use native.Mathlib.Nat.{suc-mod, mod-eq-of-lt, mod-self, zero-mod}
 use native.Mathlib.Numerals.{add-one}
 use native.Mathlib.Omega.{arith}
-use borrow.Author.Tests.{eq-eqb, ne-eqb}
 use Rattle.engine_base.specs.Answer.{answerNumber, answerKind}
 use Rattle.engine_base.specs.Bytes.{AllBytes}
 use Rattle.engine_base.specs.Refusal.{past-data, invalid-record}
@@ -19,11 +18,11 @@ use Rattle.metroid_format.specs.declared.header.Track.{Track}
 use Rattle.metroid_format.specs.declared.timeline.Finish.{Finish}
 use Rattle.metroid_format.specs.declared.timeline.Soonest.{Soonest}
 use Rattle.metroid_player.specs.Record.{freshPlayer, most-frames}
-use Rattle.metroid_player.specs.Frame.{unplayed, startOf, frameOf, frameOfTrack}
+use Rattle.metroid_player.specs.Frame.{unplayed, frameOf, frameOfTrack}
 use Rattle.metroid_player.specs.declared.record.Player.{Player}
 use Rattle.metroid_player.specs.declared.frame.Framed.{Framed}
 use Rattle.metroid_player.proofs.frame.Left.{track-left}
-use Rattle.metroid_check.specs.Run.{framesFrom, runOf}
+use Rattle.metroid_check.specs.Run.{framesFrom}
 use Rattle.metroid_check.specs.Countdown.{
   leftForeseen,
   ZeroWithoutEvents,
@@ -41,7 +40,7 @@ use Rattle.metroid_check.proofs.verdict.Place.{verdict-within}
 use Rattle.metroid_check.proofs.ahead.Starting.{aheadOf, Starts, starts, unopened-frame}
 use Rattle.metroid_check.proofs.ahead.Foreseen.{Least}
 use Rattle.metroid_check.proofs.Run.{Outlook, stopping, stopped, Stands, going, over, Steps, plays, restarts, ends, faults, stays, step}
-use Rattle.metroid_check.proofs.Demand3.{opened-frames, Comes, opened, shut, comes, demand3}
+use Rattle.metroid_check.proofs.Demand3.{opened-run, shut-run, Comes, opened, shut, comes, demand3}
 
 -- the next frame of a pass, and the first one of the next
 module _ (k length : ℕ) where
@@ -203,14 +202,13 @@ module _ (bank : List ℕ) (places : Places) (track : ℕ) where
 
   by-verdict : {verdict : Verdict} → Comes bank places track verdict → VerdictWithin (channelStart (headerOf bank places track)) verdict →
       (n : ℕ) → Countdown bank places track n verdict
-  unfolding runOf startOf
   by-verdict (opened {n = m} {i} {finish} e q small l) w n =
       let track′ = openTrack bank places track .track in
       let s = starts bank places track e in
       record {
-        started = rw (eq-eqb _ _ e, q) (small, small);
+        started = rw (opened-run bank places track e q n) (small, small);
         frames =
-            rw (eq-eqb _ _ e, q, opened-frames bank places track e n (freshPlayer m))
+            rw (opened-run bank places track e q n)
             (counts bank track′ s i m small (fault-number finish w) l n 0 (freshPlayer m) (stopping m) (going (s .run m small) l refl refl)
             (first-clock bank track′ s i m small (track′ .restart) refl finish));
       }
@@ -219,8 +217,8 @@ module _ (bank : List ℕ) (places : Places) (track : ℕ) where
       fault-number Finish.End w = tt
       fault-number (Finish.Refused number at address) (_, placed, _, _) = placed .0 .1
   by-verdict (shut e) w n = record {
-    started = rw (ne-eqb _ _ e) (omega arith, omega arith);
-    frames = rw (ne-eqb _ _ e) (shut-counts e n 0);
+    started = rw (shut-run bank places track e n) (omega arith, omega arith);
+    frames = rw (shut-run bank places track e n) (shut-counts e n 0);
   }
 
   -- in a bank of bytes

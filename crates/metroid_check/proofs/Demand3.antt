@@ -1,4 +1,4 @@
--- Demand 3 holds of the definition's verdict, and what follows from it in the paper's words.
+-- Demand 3 holds of the definition's verdict.
 use Prim.Native.Nat.{ℕ, zero, suc, _+_, _*_, _≤_}
 use mathlib.Core.Bool.{Bool, true, false}
 use mathlib.Core.List.{List, _∷_, map}
@@ -18,11 +18,13 @@ use Rattle.metroid_player.specs.Record.{freshPlayer, most-frames}
 use Rattle.metroid_player.specs.Counts.{most-commands}
 use Rattle.metroid_player.specs.Frame.{startOf, frameOf, frameOfTrack}
 use Rattle.metroid_player.specs.declared.record.Player.{Player}
+use Rattle.metroid_player.specs.declared.frame.Framed.{Framed}
 use Rattle.metroid_player.proofs.frame.Counts.{none-most}
 use Rattle.metroid_check.proofs.ahead.Foreseen.{Least}
 use Rattle.metroid_check.proofs.ahead.Starting.{aheadOf, starts, opened-frame, unopened-frame}
 use Rattle.metroid_check.specs.Run.{
   nothing,
+  Run,
   framesFrom,
   runOf,
   endFrom,
@@ -43,13 +45,31 @@ from-start n m i Finish.End = (rw zero-add, refl)
 from-start n m i (Finish.Refused number at address) = (refl, rw zero-add)
 
 module _ (bank : List ℕ) (places : Places) (track : ℕ) where
-  -- every frame opens the same track
-  pub opened-frames : openTrack bank places track .number ≡ 0 → (n : ℕ) (player : Player) →
+  opened-frames : openTrack bank places track .number ≡ 0 → (n : ℕ) (player : Player) →
       framesFrom (frameOf bank places track) n player ≡ framesFrom (frameOfTrack bank (openTrack bank places track .track)) n player
   unfolding framesFrom
   opened-frames e zero player = refl
   opened-frames e (suc n) player =
       rw (opened-frame bank places track player e) (ap (λ fs. frameOfTrack bank (openTrack bank places track .track) player ∷ fs) (opened-frames e n _))
+
+  -- n frames from a fresh record
+  abbrev run-from : (Player → Framed) → ℕ → ℕ → Run
+  run-from frame length n = record {
+    started = record { number = openTrack bank places track .number; player = freshPlayer length };
+    frames = framesFrom frame n (freshPlayer length);
+  }
+
+  -- start gives the length of a pass, and every frame opens the same track
+  pub opened-run : {m i : ℕ} {finish : Finish} → openTrack bank places track .number ≡ 0 →
+      soonestOf bank (openTrack bank places track .track) ≡ Soonest.Stop m i finish → (n : ℕ) →
+      runOf bank places track n ≡ run-from (frameOfTrack bank (openTrack bank places track .track)) m n
+  unfolding runOf startOf
+  opened-run {m} e q n = rw (eq-eqb _ _ e, q, opened-frames e n (freshPlayer m))
+
+  pub shut-run : (openTrack bank places track .number ≡ 0 → ⊥) → (n : ℕ) →
+      runOf bank places track n ≡ run-from (frameOf bank places track) 0 n
+  unfolding runOf startOf
+  shut-run e n = rw (ne-eqb _ _ e)
 
   -- every frame is refused, so that none ends
   shut-end : (openTrack bank places track .number ≡ 0 → ⊥) → (n k : ℕ) (player : Player) →
@@ -94,22 +114,20 @@ module _ (bank : List ℕ) (places : Places) (track : ℕ) where
           let e = eqb-false (openTrack bank places track .number) 0 t in
           rw (← (unopened-verdict bank places track _ refl e)) (shut e)
 
-  -- the record that start gives has the length of a pass
   by-verdict : {verdict : Verdict} → Comes verdict → (n : ℕ) → Demand3 bank places track n verdict
-  unfolding runOf startOf
   by-verdict (opened {n = m} {i} {finish} e q small l) n =
       let s = starts bank places track e in
       let all = shows bank _ s i m small l n 0 (freshPlayer m) (stopping m) (going (s .run m small) l refl refl) in
       let (end, refusal) = from-start n m i finish in
       record {
-        end = rw (eq-eqb _ _ e, q, opened-frames e n (freshPlayer m)) (all .end ∙ end);
-        refusal = rw (eq-eqb _ _ e, q, opened-frames e n (freshPlayer m)) (all .refusal ∙ refusal);
-        commands = rw (eq-eqb _ _ e, q, opened-frames e n (freshPlayer m)) (all .commands);
+        end = rw (opened-run e q n) (all .end ∙ end);
+        refusal = rw (opened-run e q n, eq-eqb _ _ e) (all .refusal ∙ refusal);
+        commands = rw (opened-run e q n) (all .commands);
       }
   by-verdict (shut e) n = record {
-    end = shut-end e n 0 _;
-    refusal = rw (ne-eqb _ _ e);
-    commands = shut-commands e n _;
+    end = rw (shut-run e n) (shut-end e n 0 _);
+    refusal = rw (shut-run e n, ne-eqb _ _ e);
+    commands = rw (shut-run e n) (shut-commands e n _);
   }
 
   pub demand3 : AllBytes bank → (n : ℕ) → Demand3 bank places track n (verdictOf bank places track)

@@ -163,6 +163,7 @@ pub fn timeline_of(kind: Kind, bytes: &[u8], lengths: &[u8], window: u8, base: u
     }
 }
 
+// The timeline of a channel in its part of the bank.
 fn channel_timeline(bank: &[u8], track: Track, voice: Voice) -> Timeline
     ensures { λ r. ⌜ r ≡ timelineOf (channelSource (now (bank .entry)) track voice) ⌝ }
 {

@@ -160,6 +160,7 @@ frameOf bank places track player =
     (frameOfTrack bank (openTrack bank places track .track) player)
     (unplayed (Answer.Refused (openTrack bank places track .number)) player)
 
+-- an opened track has a first stop
 abbrev pub stopFrame : Soonest → ℕ
 stopFrame Soonest.Nothing = 0
 stopFrame (Soonest.Stop frame i finish) = frame

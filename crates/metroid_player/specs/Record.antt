@@ -1,4 +1,4 @@
--- Document 01, 'Who uses it': the record, and what 16 tests.
+-- Document 01, 'Who uses it', and document 02, No. 2: the record, and what 16 tests.
 use Prim.Native.Nat.{ℕ}
 use mathlib.Core.Bool.{Bool, true, false}
 use mathlib.Core.List.{List, [], _∷_}

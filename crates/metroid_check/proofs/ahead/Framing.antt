@@ -14,10 +14,9 @@ use Rattle.metroid_format.specs.declared.header.Voice.{Voice}
 use Rattle.metroid_format.specs.declared.header.Track.{Track}
 use Rattle.metroid_format.specs.declared.timeline.Finish.{Finish}
 use Rattle.metroid_player.specs.Record.{four, endedPlayer, channelsFit, recordFits}
-use Rattle.metroid_player.specs.Event.{offEvent}
 use Rattle.metroid_player.specs.Counts.{most-commands, AtMost}
 use Rattle.metroid_check.specs.Run.{lastFrom, lastCounted}
-use Rattle.metroid_player.specs.Frame.{Settled, framed, frameOfTrack}
+use Rattle.metroid_player.specs.Frame.{Settled, eventless, framed, frameOfTrack}
 use Rattle.metroid_player.specs.declared.record.Player.{Player}
 use Rattle.metroid_player.specs.declared.event.Event.{Event}
 use Rattle.engine_base.specs.declared.answer.Answer.{Answer}
@@ -91,23 +90,9 @@ module _ (bank : List ℕ) (track : Track) where
     events : {es : List Event} {counts : List ℕ} {next : Player} {then : List Ahead} → Nearer now then → InRun next then →
         FrameOfRun player now (record { answer = Answer.Events; events = es; counts = counts; «frames_left» = player .«frames_left»; player = next })
     ends : {counts : List ℕ} {i : ℕ} → Due now i Finish.End → lastCounted counts ≡ i →
-        FrameOfRun player now
-        (record {
-          answer = Answer.End;
-          events = four offEvent;
-          counts = counts;
-          «frames_left» = player .«frames_left»;
-          player = endedPlayer (track .restart) (player .«pass_length»);
-        })
+        FrameOfRun player now (eventless Answer.End counts (player .«frames_left») (endedPlayer (track .restart) (player .«pass_length»)))
     faults : {counts : List ℕ} {i number at address : ℕ} → Due now i (Finish.Refused number at address) →
-        FrameOfRun player now
-        (record {
-          answer = Answer.Fault number i at address;
-          events = four offEvent;
-          counts = counts;
-          «frames_left» = player .«frames_left»;
-          player = player;
-        })
+        FrameOfRun player now (eventless (Answer.Fault number i at address) counts (player .«frames_left») player)
 
   framed-run : {player : Player} {now : List Ahead} (s : Settled) → length (track .voices) ≡ 4 → InRun player now → Settles bank track 0 (track .voices) now s →
       FrameOfRun player now (framed track player s)

@@ -5,6 +5,7 @@ use native.Mathlib.Nat.{mul-le-mul, mul-le-mul-left, mul-add}
 use native.Mathlib.Omega.{arith}
 use lib.Dec.{eqb}
 use lib.ListN.{length, getD}
+use Rattle.engine_base.specs.Bytes.{AllBytes}
 use Rattle.metroid_format.specs.Channel.{Source, playedAt}
 use Rattle.metroid_format.specs.Timeline.{frames-a-byte, afterLone, passedBy, passedOf, passBy, passFrom, freshPass, timelineOf}
 use Rattle.metroid_format.proofs.channel.Stepped.{Plays, plays}
@@ -33,7 +34,7 @@ abbrev pub BoundedBy : Source → Passed → Type 0
 BoundedBy source (Passed.On after) = Bounded source after
 BoundedBy source (Passed.Finished finish) = Unit {0}
 
-module _ (source : Source) (table : (i : ℕ) → getD (source .lengths) i 0 ≤ 255) (pass : Pass) (b : Bounded source pass) where
+module _ (source : Source) (table : AllBytes (source .lengths)) (pass : Pass) (b : Bounded source pass) where
   -- one more note in the body is at most 255 frames in each later play
   more : (body : ℕ) → body ≤ 255 * pass .lead + pass .rest + 255 →
       pass .counter * body ≤ pass .counter * (255 * pass .lead + pass .rest) + 255 * 255
@@ -68,7 +69,7 @@ module _ (source : Source) (table : (i : ℕ) → getD (source .lengths) i 0 ≤
   unfolding passedOf
   bounded = bounded-by (playedAt source (pass .next) (pass .length)) (plays source (pass .next) (pass .length))
 
-module _ (source : Source) (table : (i : ℕ) → getD (source .lengths) i 0 ≤ 255) where
+module _ (source : Source) (table : AllBytes (source .lengths)) where
   by-bounded : (on : Pass → Timeline) → ((after : Pass) → Bounded source after → on after .frames ≤ frames-a-byte * length (source .bytes)) →
       (pass : Pass) → Bounded source pass → (p : Passed) → BoundedBy source p → passBy on pass p .frames ≤ frames-a-byte * length (source .bytes)
   by-bounded on later pass b (Passed.On after) a = later after a

@@ -1,7 +1,8 @@
 -- Laws of the pass's loop.
 use Prim.Native.Nat.{ℕ, _+_, _-_, _*_, _≤_, _<_}
 use mathlib.Core.Path.{_≡_, refl}
-use lib.ListN.{length, getD}
+use lib.ListN.{length}
+use Rattle.engine_base.specs.Bytes.{AllBytes}
 use Rattle.engine_base.specs.Refusal.{past-data}
 use Rattle.metroid_format.specs.Channel.{Source, addressAt}
 use Rattle.metroid_format.specs.Timeline.{frames-a-byte, passedOf, passBy, passFrom, timelineOf, Timed}
@@ -27,7 +28,7 @@ module _ (source : Source) (pass : Pass) where
   unfolding passFrom
   pass-none fuel whole e w = rw e at w
 
-  pub pass-bounded : ((i : ℕ) → getD (source .lengths) i 0 ≤ 255) → Bounded source pass → (r passed : Passed) →
+  pub pass-bounded : AllBytes (source .lengths) → Bounded source pass → (r passed : Passed) →
       r ≡ passedOf source pass → r ≡ passed → BoundedBy source passed
   pass-bounded table b r passed e g = rw (← g, e) (bounded source table pass b)
 
