@@ -2,6 +2,7 @@
 use Prim.Native.Nat.{ℕ, _≤_, _<_}
 use mathlib.Core.Bool.{Bool, true, false, not}
 use mathlib.Core.Path.{_≡_, refl, sym, ap, subst, _∙_}
+use native.Mathlib.Omega.{arith}
 use borrow.Author.Tests.{eq-eqb, ne-eqb, le-leb, lt-leb, lt-ltb, le-ltb, not-true, not-false}
 use lib.Dec.{T, eqb, leb, ltb}
 use Rattle.engine_base.specs.Pick.{pick}
@@ -61,6 +62,19 @@ pick-call-ne r m n x y z q h e = pick-ne m n x y z (λ f. h (q ∙ f)) e
 pub by-test {κ} : {A : Type 0} (P : A → Type κ) {x y : A} (b : Bool) → (b ≡ true → P x) → (b ≡ false → P y) → P (pick b x y)
 by-test P true f g = f refl
 by-test P false f g = g refl
+
+-- both of two tests hold, a test that refuses by a number has passed, or one that refuses where it holds has not
+pub both : (a b : Bool) → pick a b false ≡ true → (a ≡ true) × (b ≡ true)
+both true b e = (refl, e)
+both false b e = absurd (subst T (sym e) tt)
+
+pub passed : (test : Bool) (number rest : ℕ) → 0 < number → pick test rest number ≡ 0 → (test ≡ true) × (rest ≡ 0)
+passed true number rest h e = (refl, e)
+passed false number rest h e = absurd (omega arith)
+
+pub unpassed : (test : Bool) (number : ℕ) → 0 < number → pick test number 0 ≡ 0 → test ≡ false
+unpassed true number h e = absurd (omega arith)
+unpassed false number h e = refl
 
 pub false-true : false ≡ true → ⊥
 false-true e = subst T (sym e) tt

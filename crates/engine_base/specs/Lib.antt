@@ -3,5 +3,7 @@ pub mod Refusal
 pub mod Told
 pub mod Bytes
 pub mod Address
+pub mod Envelope
+pub mod Loops
 pub mod Release
 pub mod Answer

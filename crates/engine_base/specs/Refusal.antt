@@ -73,6 +73,14 @@ invalid-word = 17
 abbrev pub no-room : ℕ
 no-room = 18
 
+-- document 02, No. 3: a transpose of odd amount
+abbrev pub odd-transpose : ℕ
+odd-transpose = 19
+
+-- document 02, No. 3: an address outside the banks, a goto that a goto leads to, or a 257th block word in a row
+abbrev pub bad-playlist : ℕ
+bad-playlist = 20
+
 -- Below: only private contracts and laws use these.
 
 -- 1 to 9: a bank, its places, a track number or a header is refused

@@ -1,6 +1,6 @@
 // Addresses $8000 to $bfff, where a bank stands.
 ghost use mathlib.Core.Path.{_≡_};
-ghost use Rattle.engine_base.specs.Address.{offsetOf, within};
+ghost use Rattle.engine_base.specs.Address.{offsetOf, within, allWithin};
 
 pub const BANK_START: usize = 0x8000;
 
@@ -29,6 +29,25 @@ pub fn fits(address: usize, n: usize) -> bool
     }
     if BANK_END - address < n {
         return false;
+    }
+    true
+}
+
+// Whether each of a row of places stands wholly there, the first by the first size and so on.
+pub fn all_fit(addresses: &[usize], sizes: &[usize]) -> bool
+    ensures { λ r. ⌜ r ≡ allWithin (now (addresses .entry)) (now (sizes .entry)) ⌝ }
+{
+    let mut i: usize = 0;
+    while i < addresses.len() {
+        if sizes.len() <= i {
+            return true;
+        }
+        let address = addresses[i];
+        let size = sizes[i];
+        if !fits(address, size) {
+            return false;
+        }
+        i += 1;
     }
     true
 }

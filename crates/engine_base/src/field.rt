@@ -8,6 +8,12 @@ pub fn low4(b: u8) -> u8
     b & 0x0f
 }
 
+pub fn low5(b: u8) -> u8
+    ensures { λ r. ⌜ r ≡ b % 32 ⌝ }
+{
+    b & 0x1f
+}
+
 pub fn low6(b: u8) -> u8
     ensures { λ r. ⌜ r ≡ b % 64 ⌝ }
 {

@@ -35,3 +35,7 @@ pub const INVALID_RECORD: u32 = 16;
 pub const INVALID_WORD: u32 = 17;
 
 pub const NO_ROOM: u32 = 18;
+
+pub const ODD_TRANSPOSE: u32 = 19;
+
+pub const BAD_PLAYLIST: u32 = 20;

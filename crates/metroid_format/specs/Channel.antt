@@ -6,6 +6,7 @@ use lib.ListN.{length, getD, take, drop}
 use Rattle.engine_base.specs.Pick.{pick}
 use Rattle.engine_base.specs.Told.{Told}
 use Rattle.engine_base.specs.Address.{addressOf}
+use Rattle.engine_base.specs.Loops.{counterOf}
 use Rattle.engine_base.specs.Refusal.{past-lengths, zero-length, no-length, past-data}
 use Rattle.metroid_format.specs.Bank.{lengths-size}
 use Rattle.metroid_format.specs.Command.{data-limit, commandAt}
@@ -53,10 +54,6 @@ lengthFault lengths window b =
     pick (eqb (b / 16) 0x0b)
     (pick (leb lengths-size (window + b % 16)) past-lengths (pick (eqb (lengthAt lengths window (b % 16)) 0) zero-length 0))
     0
-
--- begin loop, counter n - 1; n = 0 counts as 256 plays
-unfoldable pub counterOf : ℕ → ℕ
-counterOf n = pick (eqb n 0) 255 (n - 1)
 
 -- what a command at an offset does, given the current length (0: none yet) and the offset after it; a lone note tests 14
 abbrev pub playedOf : List ℕ → ℕ → ℕ → ℕ → Frames → Command → ℕ → Played

@@ -10,7 +10,7 @@ use Rattle.engine_base.specs.Refusal.{wrong-size, table-outside, no-track, head
 use Rattle.engine_base.specs.Address.{offsetOf, within}
 use Rattle.metroid_format.specs.Bank.{bank-size, lengths-size, periods-size, presets-size, envelopes-size}
 use Rattle.engine_base.specs.Bytes.{wordAt}
-use Rattle.metroid_format.specs.Envelope.{envelopeAddress, envelopeEnds}
+use Rattle.engine_base.specs.Envelope.{envelopeAddress, envelopeEnds}
 use Rattle.metroid_format.specs.declared.command.Kind.{Kind}
 use Rattle.metroid_format.specs.declared.command.Kind.the-variants.{Melodic, Noise}
 use Rattle.metroid_format.specs.declared.bank.Places.{Places}

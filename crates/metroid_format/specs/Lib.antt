@@ -1,7 +1,6 @@
 pub mod Command
 pub mod Words
 pub mod Bank
-pub mod Envelope
 pub mod Header
 pub mod Channel
 pub mod Timeline

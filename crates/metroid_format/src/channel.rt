@@ -8,6 +8,7 @@ use crate::command::Kind;
 use engine_base::address;
 use engine_base::bytes;
 use engine_base::field;
+use engine_base::loops;
 use engine_base::refusal;
 use engine_base::time::Frames;
 ghost use mathlib.Core.Path.{_≡_};
@@ -15,7 +16,7 @@ ghost use lib.ListN.{take};
 ghost use Rattle.engine_base.specs.Address.{addressOf};
 ghost use Rattle.engine_base.specs.Told.{Answers};
 ghost use Rattle.metroid_format.specs.Command.{data-limit};
-ghost use Rattle.metroid_format.specs.Channel.{sourceOf, lengthFault, counterOf, addressAt, loopEnd, playedOf, playedAt, stepOf, readUntil, toldUntil, Limited};
+ghost use Rattle.metroid_format.specs.Channel.{sourceOf, lengthFault, addressAt, loopEnd, playedOf, playedAt, stepOf, readUntil, toldUntil, Limited};
 
 // More commands than reading until a note can take.
 const FUEL: u32 = (DATA_LIMIT / 2 * 257 + 2) as u32;
@@ -80,13 +81,6 @@ fn length_fault(lengths: &[u8], window: u8, b: u8) -> u32
     0
 }
 
-// The counter of a begin: the plays after the first.
-fn counter_of(n: u8) -> u8
-    ensures { λ r. ⌜ r ≡ counterOf n ⌝ }
-{
-    if n == 0 { 255 } else { n - 1 }
-}
-
 // The address of the byte at an offset of data that stand at offset base of the bank.
 pub(crate) fn address_at(base: u16, at: u16) -> u32
     ensures { λ r. ⌜ r ≡ addressAt (addressOf base) at ⌝ }
@@ -109,7 +103,7 @@ fn played_by(
     match command {
         Command::End => Played::End,
         Command::EndLoop => Played::EndLoop(next),
-        Command::BeginLoop(n) => Played::BeginLoop(counter_of(n), next),
+        Command::BeginLoop(n) => Played::BeginLoop(loops::counter_of(n), next),
         Command::Length(l, note) => {
             let count = bytes::byte(lengths, window as usize + l as usize);
             Played::Length(note, Frames { count }, next)

@@ -1,30 +1,10 @@
 // The envelopes of the squares.
 use engine_base::address;
 use engine_base::bytes;
+use engine_base::envelope;
 ghost use mathlib.Core.Path.{_≡_};
 ghost use Prim.Native.Nat.{_<_};
-ghost use Rattle.metroid_format.specs.Envelope.{showsEnd, envelopeAddress, envelopeEnds};
-
-// F0 or FF stands in this many bytes of an envelope.
-pub const REACH: usize = 64;
-
-// Whether F0 or FF stands in an envelope.
-fn shows_end(bytes: &[u8]) -> bool
-    ensures { λ r. ⌜ r ≡ showsEnd (now (bytes .entry)) ⌝ }
-{
-    let mut i = 0;
-    while i < bytes.len() {
-        let b = bytes[i];
-        if b == 0xf0 {
-            return true;
-        }
-        if b == 0xff {
-            return true;
-        }
-        i += 1;
-    }
-    false
-}
+ghost use Rattle.engine_base.specs.Envelope.{envelopeAddress, envelopeEnds};
 
 // The address of envelope 1 to 5.
 pub(crate) fn address_of(bank: &[u8], table: u32, number: u8) -> u16
@@ -46,5 +26,5 @@ pub(crate) fn ends(bank: &[u8], table: u32, number: u8) -> bool
     if !address::fits(address as usize, 1) {
         return false;
     }
-    shows_end(bytes::part(bank, address::offset_of(address as usize), REACH))
+    envelope::shows_end(bytes::part(bank, address::offset_of(address as usize), envelope::REACH))
 }

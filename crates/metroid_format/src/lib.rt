@@ -3,7 +3,7 @@
 pub mod bank;
 pub mod channel;
 pub mod command;
-pub mod envelope;
+mod envelope;
 pub mod header;
 pub mod timeline;
 pub mod words;

@@ -6,7 +6,7 @@ use lib.Dec.{eqb}
 use lib.ListN.{getD, take, drop}
 use Rattle.engine_base.specs.Pick.{pick}
 use Rattle.metroid_format.specs.Bank.{periods-size, presets-size}
-use Rattle.metroid_format.specs.Envelope.{envelope-reach}
+use Rattle.engine_base.specs.Envelope.{envelope-reach}
 use Rattle.metroid_format.specs.declared.command.Kind.{Kind}
 use Rattle.metroid_format.specs.declared.command.Kind.the-variants.{Melodic, Noise as NoiseKind}
 use Rattle.metroid_format.specs.declared.header.Voice.{Voice}

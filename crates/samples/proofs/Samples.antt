@@ -9,7 +9,8 @@ use Rattle.metroid_format.specs.Command.{isKey, isPreset, noteAfter, commandOf,
 use Rattle.engine_base.specs.Address.{bank-start, bank-end, within}
 use Rattle.metroid_format.specs.Bank.{published}
 use Rattle.engine_base.specs.Bytes.{wordAt}
-use Rattle.metroid_format.specs.Envelope.{envelopeAddress, envelopeEnds}
+use Rattle.engine_base.specs.Envelope.{envelopeAddress, envelopeEnds}
+use Rattle.engine_base.specs.Loops.{counterOf}
 use Rattle.metroid_format.specs.Header.{
   header-size,
   tablesFit,
@@ -31,7 +32,7 @@ use Rattle.metroid_format.specs.Header.{
   openTrack,
 }
 use Rattle.metroid_format.specs.declared.bank.Places.{Places}
-use Rattle.metroid_format.specs.Channel.{lengthFault, counterOf, playedAt, stepOf, readFrom, readUntil}
+use Rattle.metroid_format.specs.Channel.{lengthFault, playedAt, stepOf, readFrom, readUntil}
 use Rattle.metroid_format.specs.Timeline.{passedOf, passFrom, timelineOf, stopOf, soonestFrom}
 use Rattle.engine_base.specs.Release.{dynamic}
 use Rattle.metroid_player.specs.Release.{releaseOf}

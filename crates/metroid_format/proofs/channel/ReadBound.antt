@@ -1,16 +1,16 @@
--- How many commands one reading can take. Two bytes make at most 257: a begin, and an end of loop met 256 times.
-use Prim.Native.Nat.{ℕ, zero, suc, _+_, _-_, _*_, _/_, _%_, _≤_, _<_}
-use mathlib.Core.Bool.{Bool, true, false}
+-- How many commands one reading can take: 257 for two bytes (`engine_base`, proofs/loops/Bound.antt).
+use Prim.Native.Nat.{ℕ, zero, suc, _+_, _-_, _*_, _/_, _≤_, _<_}
+use mathlib.Core.Bool.{true}
 use mathlib.Core.List.{List}
 use mathlib.Core.Path.{_≡_, refl}
 use native.Mathlib.Omega.{arith}
-use borrow.Author.Tests.{leb-true, leb-false, eqb-true, eqb-false, eq-eqb, ne-eqb}
-use lib.Dec.{leb, eqb}
-use lib.ListN.{length, getD, take, length-take, List·getD-eq-default}
+use borrow.Author.Tests.{eq-eqb, ne-eqb}
+use lib.Dec.{eqb}
+use lib.ListN.{length, getD, take, length-take}
 use Rattle.engine_base.specs.Pick.{pick}
 use Rattle.metroid_format.specs.Command.{data-limit, isNote}
 use Rattle.metroid_format.specs.Channel.{Source, sourceOf, stepOf, readBy, readFrom, readUntil, fuelOf}
-use Rattle.engine_base.proofs.Picks.{by-test}
+use Rattle.engine_base.proofs.loops.Bound.{Mark, begins as is-begin, ends as is-end, Moves, begin, go-on, go-back, Phase, fresh, begun, Lower, lowers, some-left}
 use Rattle.metroid_format.proofs.channel.Stepped.{Stepped, begins, goes-on, goes-back, notes, ends, refuses, stepped}
 use Rattle.metroid_format.proofs.channel.ReadSteps.{ByCommand, again, note, end, refused}
 use Rattle.metroid_format.specs.declared.command.Kind.{Kind}
@@ -18,10 +18,6 @@ use Rattle.metroid_format.specs.declared.channel.Cursor.{Cursor}
 use Rattle.metroid_format.specs.declared.channel.Step.{Step}
 use Rattle.metroid_format.specs.declared.channel.Stop.{Stop}
 use Rattle.metroid_format.specs.declared.channel.Until.{Until}
-
--- the commands of k bytes at most, where no loop leads back before them
-abbrev full : ℕ → ℕ
-full k = 257 * (k / 2) + k % 2
 
 -- a cursor whose counter is a byte; above 0 it goes back to a byte after a begin, unless there is an extra command
 pub record Looped (extra : ℕ) (cursor : Cursor) : Type 0 where
@@ -68,76 +64,22 @@ module _ (source : Source) where
   unfolding readUntil
   stop-holds limit cursor = read-holds (fuelOf limit) cursor 0
 
-  abbrev left : ℕ → ℕ
-  left at = length (source .bytes) - at
+  -- an end of loop, and else a begin: no other command goes on
+  unfoldable mark : ℕ → Mark
+  mark at = pick (eqb (getD (source .bytes) at 0) 0xff) is-end is-begin
 
-  abbrev loop-ends : ℕ → Bool
-  loop-ends at = eqb (getD (source .bytes) at 0) 0xff
+  abbrev size : ℕ
+  size = length (source .bytes)
 
-  -- at the loop's start with a counter
-  unfoldable again-from : ℕ → ℕ → ℕ
-  again-from start counter = pick (loop-ends start) (counter + 1 + full (left start - 1)) (full (left start))
+  abbrev PhaseOf : Cursor → ℕ → Type 0
+  PhaseOf cursor p = Phase mark size (cursor .next) (cursor .«loop_start») (cursor .counter) p
 
-  -- what is left to read from a cursor at most
-  unfoldable potential : ℕ → ℕ → ℕ → ℕ
-  potential next start counter =
-      pick (loop-ends next)
-      (pick (eqb counter 0) (1 + full (left next - 1)) (1 + again-from start (counter - 1)))
-      (full (left next))
-
-  potential-start : (start counter : ℕ) → potential start start counter ≡ again-from start counter
-  unfolding potential again-from
-  potential-start start counter =
-      by-test (λ m. m ≡ again-from start counter) (loop-ends start)
-      (λ t.
-      by-test (λ m. m ≡ again-from start counter) (eqb counter 0)
-      (λ z. let h : counter ≡ 0 = eqb-true _ _ z in rw t (omega arith)) λ z.
-      let h : counter ≡ 0 → ⊥ = eqb-false _ _ z in
-      rw t (omega arith))
-      λ f. rw f
-
-  there : (at : ℕ) → loop-ends at ≡ true → at < length (source .bytes)
-  there at t = one (leb (length (source .bytes)) at) refl
-    where
-      one : (b : Bool) → leb (length (source .bytes)) at ≡ b → at < length (source .bytes)
-      one true h =
-          let e : getD (source .bytes) at 0 ≡ 0xff = eqb-true _ _ t in
-          absurd (omega (arith, List·getD-eq-default (source .bytes) 0 (leb-true _ _ h)))
-      one false h = leb-false _ _ h
-
-  begin-lowers : (at counter : ℕ) → at < length (source .bytes) → counter ≤ 255 → again-from (at + 1) counter < full (left at)
-  unfolding again-from
-  begin-lowers at counter h c =
-      by-test (λ m. m < full (left at)) (loop-ends (at + 1))
-      (λ t. let h′ : at + 1 < length (source .bytes) = there _ t in omega arith) λ _.
-      omega arith
-
-  end-lowers : (at start : ℕ) → at < length (source .bytes) → potential (at + 1) start 0 < 1 + full (left at - 1)
-  unfolding potential
-  end-lowers at start h =
-      by-test (λ m. m < 1 + full (left at - 1)) (loop-ends (at + 1))
-      (λ t. let h′ : at + 1 < length (source .bytes) = there _ t in omega arith) λ _.
-      omega arith
-
-  abbrev potentialOf : Cursor → ℕ
-  potentialOf cursor = potential (cursor .next) (cursor .«loop_start») (cursor .counter)
-
-  lowers : {cursor after : Cursor} → Stepped source cursor (Step.Again after) → potentialOf after < potentialOf cursor
-  unfolding potential
-  lowers {cursor} (begins counter h e m) =
-      rw (potential-start (cursor .next + 1) counter, ne-eqb _ _ e) (begin-lowers (cursor .next) counter h m)
-  lowers {cursor} (goes-on h e z) = rw (z, eq-eqb _ _ e) (end-lowers (cursor .next) (cursor .«loop_start») h)
-  lowers {cursor} (goes-back h e m) =
-      let n : cursor .counter ≡ 0 → ⊥ = omega arith in
-      rw (potential-start (cursor .«loop_start») (cursor .counter - 1), eq-eqb _ _ e, ne-eqb _ _ n) (omega arith)
-
-  -- a stop that counts is of a byte that is there
-  stops : (next start counter : ℕ) → next < length (source .bytes) → 0 < potential next start counter
-  unfolding potential
-  stops next start counter h =
-      by-test (λ m. 0 < m) (loop-ends next)
-      (λ _. by-test (λ m. 0 < m) (eqb counter 0) (λ _. omega arith) λ _. omega arith) λ _.
-      omega arith
+  moves : {cursor after : Cursor} → Stepped source cursor (Step.Again after) →
+      Moves mark size (cursor .next) (cursor .«loop_start») (cursor .counter) (after .next) (after .«loop_start») (after .counter)
+  unfolding mark
+  moves (begins counter h e m) = begin counter h (rw (ne-eqb _ _ e)) m
+  moves (goes-on h e z) = go-on h (rw (eq-eqb _ _ e)) z
+  moves (goes-back h e m) = go-back h (rw (eq-eqb _ _ e)) m
 
   module _ (extra : ℕ) where
     looped-step : {cursor : Cursor} {step : Step} → Stepped source cursor step → Looped extra cursor → LoopedBy extra step
@@ -150,22 +92,6 @@ module _ (source : Source) where
 
     looped-after : {cursor : Cursor} {step : Step} → stepOf source cursor ≡ step → Looped extra cursor → LoopedBy extra step
     looped-after {cursor} e p = looped-step (rw e at (stepped source cursor)) p
-
-    -- fuel above the potential is never used up: reading goes command by command to its stop
-    reads-from : (fuel : ℕ) (cursor : Cursor) (count : ℕ) → Looped extra cursor → potentialOf cursor < fuel →
-        ByCommand source cursor count (readFrom source fuel cursor count)
-    unfolding readFrom
-    reads-from zero cursor count p h = absurd (omega arith)
-    reads-from (suc fuel) cursor count p h = from (reads-from fuel) (stepOf source cursor) refl
-      where
-        from : ((d : Cursor) (n : ℕ) → Looped extra d → potentialOf d < fuel → ByCommand source d n (readFrom source fuel d n)) →
-            (step : Step) → stepOf source cursor ≡ step → ByCommand source cursor count (readBy (readFrom source fuel) cursor count step)
-        from further (Step.Again d) e =
-            let l : potentialOf d < potentialOf cursor = lowers (rw e at (stepped source cursor)) in
-            again e (further d (count + 1) (looped-after e p) (omega arith))
-        from further (Step.Note b d) e = note e
-        from further Step.End e = end e
-        from further (Step.Refused number at address) e = refused e
 
     -- the cursor that reading gives is looped as well
     pub reads-looped : {cursor : Cursor} {count : ℕ} {until : Until} → ByCommand source cursor count until →
@@ -181,46 +107,71 @@ module _ (source : Source) where
   end-there : {cursor : Cursor} → Stepped source cursor Step.End → cursor .next < length (source .bytes)
   end-there (ends h) = h
 
-  reads-count : {cursor : Cursor} {count : ℕ} {until : Until} → ByCommand source cursor count until →
-      until .count ≤ count + potentialOf cursor
-  reads-count {cursor} (again {after} e r) =
-      let l : potentialOf after < potentialOf cursor = lowers (rw e at (stepped source cursor)) in
-      omega (arith, reads-count r)
-  reads-count {cursor} (note e) =
-      omega (arith, stops _ (cursor .«loop_start») (cursor .counter) (note-there (rw e at (stepped source cursor))))
-  reads-count {cursor} (end e) =
-      omega (arith, stops _ (cursor .«loop_start») (cursor .counter) (end-there (rw e at (stepped source cursor))))
-  reads-count {cursor} (refused e) = omega arith
+  -- one command, and what is read after it
+  reads-by : (fuel : ℕ) (cursor : Cursor) (count : ℕ) →
+      ((d : Cursor) → stepOf source cursor ≡ Step.Again d → ByCommand source d (count + 1) (readFrom source fuel d (count + 1))) →
+      ByCommand source cursor count (readFrom source (suc fuel) cursor count)
+  unfolding readFrom
+  reads-by fuel cursor count further = from (stepOf source cursor) refl
+    where
+      from : (step : Step) → stepOf source cursor ≡ step → ByCommand source cursor count (readBy (readFrom source fuel) cursor count step)
+      from (Step.Again d) e = again e (further d e)
+      from (Step.Note b d) e = note e
+      from Step.End e = end e
+      from (Step.Refused number at address) e = refused e
+
+  -- fuel above what is left to read is never used up: reading goes command by command to its stop
+  reads-from : (fuel : ℕ) (cursor : Cursor) (count : ℕ) {p : ℕ} → PhaseOf cursor p → p < fuel →
+      ByCommand source cursor count (readFrom source fuel cursor count)
+  reads-from zero cursor count f h = absurd (omega arith)
+  reads-from (suc fuel) cursor count f h =
+      reads-by fuel cursor count λ d e.
+      let l = lowers mark size (moves (rw e at (stepped source cursor))) f in
+      reads-from fuel d (count + 1) (l .phase) (omega (arith, l .less))
+
+  reads-count : {cursor : Cursor} {count p : ℕ} {until : Until} → ByCommand source cursor count until → PhaseOf cursor p → until .count ≤ count + p
+  reads-count {cursor} (again e r) f =
+      let l = lowers mark size (moves (rw e at (stepped source cursor))) f in
+      omega (arith, l .less, reads-count r (l .phase))
+  reads-count {cursor} (note e) f = omega (arith, some-left mark size (note-there (rw e at (stepped source cursor))) f)
+  reads-count {cursor} (end e) f = omega (arith, some-left mark size (end-there (rw e at (stepped source cursor))) f)
+  reads-count {cursor} (refused e) f = omega arith
 
   module _ (half extra : ℕ) (within : length (source .bytes) ≤ 2 * half) where
-    again-limit : (start counter : ℕ) → 0 < half → counter ≤ 254 → 0 < start + extra → 1 + again-from start counter ≤ half * 257 + extra
-    unfolding again-from
-    again-limit start counter n c h =
-        by-test (λ m. 1 + m ≤ half * 257 + extra) (loop-ends start)
-        (λ t. let h′ : start < length (source .bytes) = there _ t in omega arith) λ _.
-        omega arith
-
-    potential-limit : (cursor : Cursor) → Looped extra cursor → potentialOf cursor ≤ half * 257 + extra
-    unfolding potential
-    potential-limit cursor p =
-        by-test (λ m. m ≤ half * 257 + extra) (loop-ends (cursor .next))
-        (λ t.
-        by-test (λ m. m ≤ half * 257 + extra) (eqb (cursor .counter) 0)
-        (λ _. let h′ : cursor .next < length (source .bytes) = there _ t in omega arith) λ z.
-        let n : cursor .counter ≡ 0 → ⊥ = eqb-false _ _ z in
-        let h′ : cursor .next < length (source .bytes) = there _ t in
-        again-limit (cursor .«loop_start») (cursor .counter - 1) (omega arith) (omega arith) (p .after-begin (omega arith))) λ _.
-        omega arith
+    -- after its first command, reading from any cursor is in no loop or in a loop's first play
+    enters : {cursor after : Cursor} → Looped extra cursor → Stepped source cursor (Step.Again after) →
+        Lower mark size (after .next) (after .«loop_start») (after .counter) (half * 257 + extra)
+    enters p (begins counter h e m) = record { rest = _; phase = begun mark size _ counter m; less = omega arith }
+    enters p (goes-on h e z) = record { rest = _; phase = fresh z; less = omega arith }
+    enters {cursor} p (goes-back h e m) =
+        record {
+          rest = _;
+          phase = begun mark size (cursor .«loop_start») (cursor .counter - 1) (omega (arith, p .byte));
+          less = omega (arith, p .after-begin m);
+        }
 
     -- reading never uses up its fuel
     pub reads : (cursor : Cursor) → extra ≤ 1 → Looped extra cursor → ByCommand source cursor 0 (readUntil (2 * half) source cursor)
     unfolding readUntil
-    reads cursor x p = reads-from extra (fuelOf (2 * half)) cursor 0 p (omega (arith, potential-limit cursor p))
+    reads cursor x p =
+        let fuel : fuelOf (2 * half) ≡ suc (half * 257 + 1) = omega arith in
+        rw fuel
+        (reads-by (half * 257 + 1) cursor 0 λ d e.
+        let l = enters p (rw e at (stepped source cursor)) in
+        reads-from (half * 257 + 1) d 1 (l .phase) (omega (arith, l .less)))
+
+    first-count : {cursor : Cursor} {until : Until} → Looped extra cursor → ByCommand source cursor 0 until → until .count ≤ half * 257 + extra
+    first-count {cursor} p (again e r) =
+        let l = enters p (rw e at (stepped source cursor)) in
+        omega (arith, l .less, reads-count r (l .phase))
+    first-count {cursor} p (note e) = omega (arith, note-there (rw e at (stepped source cursor)))
+    first-count {cursor} p (end e) = omega (arith, end-there (rw e at (stepped source cursor)))
+    first-count p (refused e) = omega arith
 
     -- 257 commands for two bytes, and one more where a counter above 0 goes back before the first begin
     pub count-bound : (cursor : Cursor) → extra ≤ 1 → Looped extra cursor →
         (readUntil (2 * half) source cursor) .count ≤ half * 257 + extra
-    count-bound cursor x p = omega (arith, reads-count (reads cursor x p), potential-limit cursor p)
+    count-bound cursor x p = first-count p (reads cursor x p)
 
 -- so of every call: whatever the data's length and the cursor, whose counter is a byte
 pub never-used-up : (kind : Kind) (bytes lengths : List ℕ) (window start : ℕ) (cursor : Cursor) → cursor .counter ≤ 255 →

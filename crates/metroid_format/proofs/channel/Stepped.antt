@@ -7,11 +7,13 @@ use native.Mathlib.Omega.{arith}
 use borrow.Author.Tests.{eqb-true, eqb-false}
 use lib.Dec.{leb, eqb}
 use lib.ListN.{length, getD}
+use Rattle.engine_base.specs.Loops.{counterOf}
 use Rattle.engine_base.specs.Refusal.{invalid-command, past-data, FaultWithin}
 use Rattle.metroid_format.specs.Bank.{lengths-size}
 use Rattle.metroid_format.specs.Command.{isNote, commandAt}
-use Rattle.metroid_format.specs.Channel.{Source, lengthFault, lengthAt, counterOf, playedOf, playedBy, playedAt, addressAt, stepBy, stepOf}
+use Rattle.metroid_format.specs.Channel.{Source, lengthFault, lengthAt, playedOf, playedBy, playedAt, addressAt, stepBy, stepOf}
 use Rattle.engine_base.proofs.Picks.{by-test}
+use Rattle.engine_base.proofs.loops.Bound.{counter-bound}
 use Rattle.metroid_format.proofs.command.Laws.{Stands, is-end, is-end-loop, is-begin, is-length, is-note, Wants, found, refused-near}
 use Rattle.metroid_format.specs.declared.command.Command.{Command}
 use Rattle.metroid_format.specs.declared.command.Decoded.{Decoded}
@@ -19,10 +21,6 @@ use Rattle.engine_base.specs.declared.time.Frames.{Frames}
 use Rattle.metroid_format.specs.declared.channel.Cursor.{Cursor}
 use Rattle.metroid_format.specs.declared.channel.Played.{Played}
 use Rattle.metroid_format.specs.declared.channel.Step.{Step}
-
-counter-bound : (n : ℕ) → n < 64 → counterOf n ≤ 255
-unfolding counterOf
-counter-bound n h = by-test (λ m. m ≤ 255) (eqb n 0) (λ _. omega arith) λ _. omega arith
 
 -- a BL that passes 12 and 13 gives a length above 0
 length-above : (lengths : List ℕ) (window b : ℕ) → b / 16 ≡ 0x0b → lengthFault lengths window b ≡ 0 → 0 < lengthAt lengths window (b % 16)

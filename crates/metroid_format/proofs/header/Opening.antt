@@ -24,7 +24,7 @@ use Rattle.engine_base.specs.Refusal.{
 use Rattle.engine_base.specs.Address.{bank-start, bank-end, offsetOf, addressOf, within}
 use Rattle.metroid_format.specs.Bank.{bank-size}
 use Rattle.engine_base.specs.Pick.{all}
-use Rattle.metroid_format.specs.Envelope.{envelopeAddress}
+use Rattle.engine_base.specs.Envelope.{envelopeAddress}
 use Rattle.metroid_format.specs.Header.{
   placesFit,
   windowFits,
@@ -46,7 +46,7 @@ use Rattle.metroid_format.specs.Header.{
   openTrack,
   channelStart,
 }
-use Rattle.engine_base.proofs.Picks.{by-test, false-true}
+use Rattle.engine_base.proofs.Picks.{by-test, both, passed, unpassed, false-true}
 use Rattle.metroid_format.specs.declared.command.Kind.{Kind}
 use Rattle.metroid_format.specs.declared.bank.Places.{Places}
 use Rattle.metroid_format.specs.declared.header.Voice.{Voice}
@@ -72,18 +72,6 @@ pub record Opens (bank : List ℕ) (start : ℕ → ℕ) (track : Track) : Type 
   pub low : track .window < 32
   pub starts : AllStart start 0 (track .voices)
   pub some : SomeUsed (track .voices)
-
-both : (a b : Bool) → pick a b false ≡ true → (a ≡ true) × (b ≡ true)
-both true b e = (refl, e)
-both false b e = let z : _≡_ {A = ℕ} 0 1 = cc in absurd (omega arith)
-
-passed : (test : Bool) (number rest : ℕ) → 0 < number → pick test rest number ≡ 0 → (test ≡ true) × (rest ≡ 0)
-passed true number rest h e = (refl, e)
-passed false number rest h e = absurd (omega arith)
-
-unpassed : (test : Bool) (number : ℕ) → 0 < number → pick test number 0 ≡ 0 → test ≡ false
-unpassed true number h e = absurd (omega arith)
-unpassed false number h e = refl
 
 most : (test : Bool) (number rest : ℕ) → number ≤ no-channel → rest ≤ no-channel → pick test rest number ≤ no-channel
 most true number rest h k = k

@@ -1,5 +1,5 @@
 use borrow.Author.Needs.{needs}
-use Rattle.metroid_format.specs.Envelope.{envelopeAddress}
+use Rattle.engine_base.specs.Envelope.{envelopeAddress}
 use Rattle.metroid_format.proofs.envelope.address_of.Statement.{statement}
 use Rattle.metroid_format.proofs.envelope.address_of.Tie as tie
 

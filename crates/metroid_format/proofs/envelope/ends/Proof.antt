@@ -1,5 +1,5 @@
 use borrow.Author.Needs.{needs}
-use Rattle.metroid_format.specs.Envelope.{envelopeEnds}
+use Rattle.engine_base.specs.Envelope.{envelopeEnds}
 use Rattle.engine_base.proofs.Picks.{guards}
 use Rattle.metroid_format.proofs.envelope.ends.Statement.{statement}
 use Rattle.metroid_format.proofs.envelope.ends.Tie as tie
