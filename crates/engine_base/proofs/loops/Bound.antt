@@ -22,10 +22,11 @@ pub data Mark : Type 0 where
   ends : Mark
   passes : ℕ → Mark
 
-abbrev afterOf : Mark → ℕ
-afterOf begins = 0
-afterOf ends = 1
-afterOf (passes after) = after + 2
+-- a number for each, so that two of one command are the same
+abbrev numberOf : Mark → ℕ
+numberOf begins = 0
+numberOf ends = 1
+numberOf (passes after) = after + 2
 
 mul-add-one : (a b : ℕ) → a * (b + 1) ≡ a * b + a
 mul-add-one a b = rw (add-one b) (mul-suc a b)
@@ -68,8 +69,8 @@ module _ (mark : ℕ → Mark) (end : ℕ) where
     pub phase : Phase next start counter rest
     pub less : rest < p
 
-  apart : {m a b : Mark} → m ≡ a → m ≡ b → afterOf a ≡ afterOf b
-  apart e f = ap afterOf (sym e ∙ f)
+  same-mark : {m a b : Mark} → m ≡ a → m ≡ b → numberOf a ≡ numberOf b
+  same-mark e f = ap numberOf (sym e ∙ f)
 
   lower : {next start counter p : ℕ} (rest : ℕ) → Phase next start counter rest → rest < p → Lower next start counter p
   lower rest phase less = record { rest = rest; phase = phase; less = less }
@@ -86,24 +87,24 @@ module _ (mark : ℕ → Mark) (end : ℕ) where
       Lower next′ start′ counter′ p
   lowers (begin n h m c) (fresh z) = lower _ (begun _ n c) (omega arith)
   lowers (begin n h m c) (first j b body) = lower _ (begun _ n c) (omega arith)
-  lowers (begin n h m c) (later q i j g (here e) s) = absurd (omega (arith, apart m e))
-  lowers (begin n h m c) (later q i j g (more e t) s) = absurd (omega (arith, apart m e))
+  lowers (begin n h m c) (later q i j g (here e) s) = absurd (omega (arith, same-mark m e))
+  lowers (begin n h m c) (later q i j g (more e t) s) = absurd (omega (arith, same-mark m e))
   lowers (pass after m h w) (fresh z) = lower _ (fresh z) (omega arith)
   lowers {counter = counter} (pass after m h w) (first j b body) =
       lower _ (first (j + 1) b (λ q i t. subst (ToEnd q _) (omega arith) (body q (i + 1) (more m t))))
       (omega (arith, mul-add-one counter j))
-  lowers (pass after m h w) (later q i j g (here e) s) = absurd (omega (arith, apart m e))
+  lowers (pass after m h w) (later q i j g (here e) s) = absurd (omega (arith, same-mark m e))
   lowers (pass after m h w) (later q i j g (more {after = a} {i = k} e t) s) =
-      let same : a ≡ after = omega (arith, apart e m) in
+      let same : a ≡ after = omega (arith, same-mark e m) in
       lower _ (later q k j g (subst (λ x. ToEnd q x k) same t) s) (omega arith)
   lowers (go-on h m z) (fresh y) = lower _ (fresh z) (omega arith)
   lowers (go-on h m z) (first j b body) = lower _ (fresh z) (omega arith)
   lowers (go-on h m z) (later q i j g (here e) s) = lower _ (fresh z) (omega arith)
-  lowers (go-on h m z) (later q i j g (more e t) s) = absurd (omega (arith, apart m e))
+  lowers (go-on h m z) (later q i j g (more e t) s) = absurd (omega (arith, same-mark m e))
   lowers (go-back h m c) (fresh z) = absurd (omega arith)
   lowers {counter = counter} (go-back h m c) (first j b body) = back h (body _ 0 (here m)) c (omega (arith, mul-add-one counter j))
   lowers (go-back h m c) (later q i j g (here e) s) = back g s c (omega arith)
-  lowers (go-back h m c) (later q i j g (more e t) s) = absurd (omega (arith, apart m e))
+  lowers (go-back h m c) (later q i j g (more e t) s) = absurd (omega (arith, same-mark m e))
 
   -- a command that can stop the reading counts, so that something is left before it
   pub some-left : {next start counter p : ℕ} → next < end → Phase next start counter p → 0 < p
