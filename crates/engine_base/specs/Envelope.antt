@@ -1,4 +1,4 @@
--- Document 01, 'The bank and its places': the envelopes of the squares.
+-- The envelopes of the squares: where one stands, and that it ends.
 use Prim.Native.Nat.{ℕ, _+_, _-_, _*_}
 use mathlib.Core.Bool.{Bool, true, false}
 use mathlib.Core.List.{List, [], _∷_}
@@ -13,7 +13,7 @@ abbrev pub showsEnd : List ℕ → Bool
 showsEnd [] = false
 showsEnd (b ∷ rest) = pick (eqb b 0xf0) true (pick (eqb b 0xff) true (showsEnd rest))
 
--- the address of envelope 1 to 5, from the table
+-- the address of an envelope by its number, from 1 on, in the table
 unfoldable pub envelopeAddress : List ℕ → ℕ → ℕ → ℕ
 envelopeAddress bank table number = wordAt bank (offsetOf (table + 2 * (number - 1)))
 
