@@ -1,3 +1,4 @@
 pub mod Picks
 pub mod Fuel
 pub mod Buffers
+pub mod Channels

@@ -7,6 +7,10 @@ use lib.ListN.{getD}
 unfoldable pub wordAt : List ℕ → ℕ → ℕ
 wordAt bytes at = getD bytes at 0 + 256 * getD bytes (at + 1) 0
 
+-- key periods are big-endian words
+unfoldable pub periodAt : List ℕ → ℕ → ℕ
+periodAt periods key = 256 * getD periods (2 * key) 0 + getD periods (2 * key + 1) 0
+
 -- Below: only private contracts and laws use these.
 
 -- what is lent as bytes

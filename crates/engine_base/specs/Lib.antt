@@ -6,4 +6,6 @@ pub mod Address
 pub mod Envelope
 pub mod Loops
 pub mod Release
+pub mod Ctrl1
+pub mod Channels
 pub mod Answer

@@ -81,6 +81,10 @@ odd-transpose = 19
 abbrev pub bad-playlist : ℕ
 bad-playlist = 20
 
+-- document 02, No. 3: a channel's 100,001st command in a frame
+abbrev pub too-many-commands : ℕ
+too-many-commands = 21
+
 -- Below: only private contracts and laws use these.
 
 -- 1 to 9: a bank, its places, a track number or a header is refused

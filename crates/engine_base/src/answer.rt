@@ -1,5 +1,6 @@
 // What a frame answers.
 ghost use mathlib.Core.Path.{_≡_};
+ghost use Rattle.engine_base.specs.Pick.{pick};
 ghost use Rattle.engine_base.specs.Answer.{answerNumber, answerKind};
 
 pub enum Answer {
@@ -36,4 +37,10 @@ pub fn kind_of(answer: Answer) -> u32
         Answer::Refused(_) => 3,
         Answer::Fault(_, _, _, _) => 3,
     }
+}
+
+pub fn flag(b: bool) -> u32
+    ensures { λ r. ⌜ r ≡ pick b 1 0 ⌝ }
+{
+    if b { 1 } else { 0 }
 }

@@ -19,3 +19,9 @@ pub fn low6(b: u8) -> u8
 {
     b & 0x3f
 }
+
+pub fn low7(b: u8) -> u8
+    ensures { λ r. ⌜ r ≡ b % 128 ⌝ }
+{
+    b & 0x7f
+}

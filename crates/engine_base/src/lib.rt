@@ -4,6 +4,7 @@ pub mod address;
 pub mod answer;
 pub mod buffer;
 pub mod bytes;
+pub mod ctrl1;
 pub mod envelope;
 pub mod field;
 pub mod loops;

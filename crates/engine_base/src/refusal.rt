@@ -39,3 +39,5 @@ pub const NO_ROOM: u32 = 18;
 pub const ODD_TRANSPOSE: u32 = 19;
 
 pub const BAD_PLAYLIST: u32 = 20;
+
+pub const TOO_MANY_COMMANDS: u32 = 21;

@@ -5,7 +5,7 @@ ghost use mathlib.Core.Path.{_≡_};
 ghost use Rattle.engine_base.specs.Release.{dynamic, toldRelease};
 
 // Never, where a release is told as a number.
-const NEVER: u8 = 255;
+const NEVER: u32 = 255;
 
 pub enum Release {
     After(QuarterFrames),
@@ -29,11 +29,11 @@ pub fn dynamic_of(length: Frames) -> QuarterFrames
 }
 
 // A release as a number of quarter-frames.
-pub fn quarter_frames(release: Release) -> u8
+pub fn quarter_frames(release: Release) -> u32
     ensures { λ r. ⌜ r ≡ toldRelease release ⌝ }
 {
     match release {
-        Release::After(after) => after.count,
+        Release::After(after) => after.count as u32,
         Release::Never => NEVER,
     }
 }

@@ -19,7 +19,7 @@ use Rattle.metroid_player.specs.Counts.{most-commands}
 use Rattle.metroid_player.specs.Frame.{startOf, frameOf, frameOfTrack}
 use Rattle.metroid_player.specs.declared.record.Player.{Player}
 use Rattle.metroid_player.specs.declared.frame.Framed.{Framed}
-use Rattle.metroid_player.proofs.frame.Counts.{none-most}
+use Rattle.engine_base.proofs.Channels.{none-most}
 use Rattle.metroid_check.proofs.ahead.Foreseen.{Least}
 use Rattle.metroid_check.proofs.ahead.Starting.{aheadOf, starts, opened-frame, unopened-frame}
 use Rattle.metroid_check.specs.Run.{

@@ -9,12 +9,13 @@ use lib.Dec.{leb·zero, leb·suc-zero, leb·suc-suc}
 use Rattle.metroid_format.specs.declared.header.Track.{Track}
 use Rattle.metroid_format.specs.declared.timeline.Finish.{Finish}
 use Rattle.metroid_player.specs.Record.{endedPlayer, stoppedPlayer, most-frames}
-use Rattle.metroid_player.specs.Counts.{most-commands, AtMost}
+use Rattle.engine_base.specs.Channels.{AtMost}
+use Rattle.metroid_player.specs.Counts.{most-commands}
 use Rattle.metroid_player.specs.Frame.{frameOfTrack}
 use Rattle.metroid_player.specs.declared.record.Player.{Player}
 use Rattle.engine_base.specs.declared.answer.Answer.{Answer}
 use Rattle.metroid_player.specs.declared.frame.Framed.{Framed}
-use Rattle.metroid_player.proofs.frame.Counts.{none-most}
+use Rattle.engine_base.proofs.Channels.{none-most}
 use Rattle.metroid_player.proofs.frame.Left.{LeftBy, track-left}
 use Rattle.metroid_check.proofs.ahead.Settling.{Ahead}
 use Rattle.metroid_check.proofs.ahead.Framing.{InRun, run-counts}

@@ -4,7 +4,7 @@ use mathlib.Core.List.{List, [], _∷_}
 use lib.Dec.{eqb}
 use Rattle.engine_base.specs.Pick.{pick}
 use Rattle.metroid_format.specs.declared.bank.Places.{Places}
-use Rattle.metroid_player.specs.Counts.{AtMost}
+use Rattle.engine_base.specs.Channels.{AtMost}
 use Rattle.metroid_player.specs.Frame.{startOf, frameOf}
 use Rattle.metroid_player.specs.declared.record.Player.{Player}
 use Rattle.engine_base.specs.declared.answer.Answer.{Answer}

@@ -1,12 +1,7 @@
 -- Demand 3: the most commands that a channel reads in a frame of a run.
-use Prim.Native.Nat.{ℕ, _*_, _/_, _≤_}
-use mathlib.Core.List.{List, [], _∷_}
+use Prim.Native.Nat.{ℕ, _*_, _/_}
 use Rattle.metroid_format.specs.Command.{data-limit}
 
 -- 257 commands for two bytes: 32,896
 abbrev pub most-commands : ℕ
 most-commands = data-limit / 2 * 257
-
-abbrev pub AtMost : ℕ → List ℕ → Type 0
-AtMost most [] = Unit {0}
-AtMost most (n ∷ ns) = (n ≤ most) × AtMost most ns

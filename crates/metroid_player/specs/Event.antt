@@ -1,5 +1,5 @@
 -- Document 01, 'A frame': what the answer holds for each channel.
-use Prim.Native.Nat.{ℕ, _+_, _-_, _*_, _/_}
+use Prim.Native.Nat.{ℕ, _+_, _-_, _/_}
 use mathlib.Core.Bool.{Bool, false}
 use mathlib.Core.List.{List, [], _∷_}
 use lib.Dec.{eqb}
@@ -13,7 +13,9 @@ use Rattle.metroid_format.specs.declared.header.Voice.{Voice}
 use Rattle.metroid_format.specs.declared.header.Track.{Track}
 use Rattle.engine_base.specs.Release.{toldRelease}
 use Rattle.metroid_player.specs.Release.{releaseOf}
-use Rattle.metroid_player.specs.Ctrl1.{silent, ctrl1At}
+use Rattle.engine_base.specs.Bytes.{periodAt}
+use Rattle.engine_base.specs.Ctrl1.{silent}
+use Rattle.metroid_player.specs.Ctrl1.{ctrl1At}
 use Rattle.metroid_player.specs.declared.record.Channel.{Channel}
 use Rattle.engine_base.specs.declared.release.Release.the-variants.{After}
 use Rattle.metroid_player.specs.declared.event.Sound.{Sound}
@@ -29,10 +31,6 @@ melodic-rest = 0x02
 
 abbrev pub noise-rest : ℕ
 noise-rest = 0x01
-
--- key periods are big-endian words
-unfoldable pub periodAt : List ℕ → ℕ → ℕ
-periodAt periods key = 256 * getD periods (2 * key) 0 + getD periods (2 * key + 1) 0
 
 -- the bytes of a square's envelope, none where it has none
 unfoldable pub envelopeOf : List ℕ → Voice → List ℕ

@@ -20,7 +20,8 @@ use Rattle.metroid_format.specs.declared.channel.Cursor.{Cursor}
 use Rattle.metroid_format.specs.declared.channel.Stop.{Stop}
 use Rattle.metroid_format.specs.declared.channel.Until.{Until}
 use Rattle.metroid_format.specs.declared.timeline.Soonest.{Soonest}
-use Rattle.metroid_player.specs.Record.{four, freshPlayer, endedPlayer, cursorOf, recordFits}
+use Rattle.engine_base.specs.Channels.{four}
+use Rattle.metroid_player.specs.Record.{freshPlayer, endedPlayer, cursorOf, recordFits}
 use Rattle.metroid_player.specs.Event.{offEvent, eventOf, toldEvent}
 use Rattle.metroid_player.specs.declared.record.Channel.{Channel}
 use Rattle.metroid_player.specs.declared.record.Player.{Player}

@@ -4,6 +4,7 @@ use mathlib.Core.Bool.{Bool, true, false}
 use mathlib.Core.List.{List, [], _∷_}
 use lib.Dec.{leb, eqb}
 use Rattle.engine_base.specs.Pick.{pick}
+use Rattle.engine_base.specs.Channels.{four}
 use Rattle.metroid_format.specs.Command.{data-limit, isNote}
 use Rattle.metroid_format.specs.declared.channel.Cursor.{Cursor}
 use Rattle.metroid_format.specs.declared.header.Voice.{Voice}
@@ -13,9 +14,6 @@ use Rattle.metroid_player.specs.declared.record.Player.{Player}
 abbrev pub freshChannel : Channel
 freshChannel =
     record { next = 0; «loop_start» = 0; counter = 0; length = record { count = 0 }; left = record { count = 0 }; sounding = 0 }
-
-abbrev pub four : {A : Type 0} → A → List A
-four x = x ∷ x ∷ x ∷ x ∷ []
 
 -- before the first frame of a pass: all 0 but the two numbers, the pass's full length
 abbrev pub freshPlayer : ℕ → Player

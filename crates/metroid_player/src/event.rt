@@ -2,20 +2,20 @@
 use crate::ctrl1;
 use crate::record::Channel;
 use crate::release;
+use engine_base::answer;
 use engine_base::bytes;
+use engine_base::ctrl1::SILENT;
 use engine_base::envelope;
 use engine_base::release::Release;
-use engine_base::time::Frames;
+use engine_base::time;
 use engine_base::time::QuarterFrames;
 use metroid_format::bank;
 use metroid_format::command::Kind;
 use metroid_format::header::Track;
 use metroid_format::header::Voice;
 ghost use mathlib.Core.Path.{_≡_};
-ghost use Prim.Native.Nat.{_-_};
-ghost use Rattle.metroid_player.specs.Event.{offEvent, periodAt, envelopeOf, melodicRest, noteCtrl1, melodicNote, noiseSound, soundOf, eventOf, toldEvent};
-ghost use Rattle.engine_base.specs.Pick.{pick};
-ghost use Rattle.engine_base.specs.Release.{toldRelease};
+ghost use Rattle.engine_base.specs.Bytes.{periodAt};
+ghost use Rattle.metroid_player.specs.Event.{offEvent, envelopeOf, melodicRest, noteCtrl1, melodicNote, noiseSound, soundOf, eventOf, toldEvent};
 
 pub enum Sound {
     Off,
@@ -79,18 +79,6 @@ fn envelope_of(bank: &[u8], voice: Voice) -> &[u8]
     bytes::part(bank, 0, 0)
 }
 
-// The index of a frame in its note, whose frames left still count it.
-fn index_of(length: Frames, left: Frames) -> Frames
-    ensures { λ r. ⌜ r .count ≡ length .count - left .count ⌝ }
-{
-    if length.count < left.count {
-        return Frames { count: 0 };
-    }
-    Frames {
-        count: length.count - left.count,
-    }
-}
-
 fn melodic_rest(i: usize) -> Sound
     ensures { λ r. ⌜ r ≡ melodicRest i ⌝ }
 {
@@ -98,7 +86,7 @@ fn melodic_rest(i: usize) -> Sound
         let none = Release::After(QuarterFrames { count: 0 });
         Sound::TriangleRest(none)
     } else {
-        Sound::SquareRest(ctrl1::SILENT)
+        Sound::SquareRest(SILENT)
     }
 }
 
@@ -106,7 +94,7 @@ fn melodic_rest(i: usize) -> Sound
 fn note_ctrl1(bank: &[u8], voice: Voice, channel: Channel) -> u8
     ensures { λ r. ⌜ r ≡ noteCtrl1 (now (bank .entry)) voice channel ⌝ }
 {
-    let index = index_of(channel.length, channel.left);
+    let index = time::index_of(channel.length, channel.left);
     ctrl1::ctrl1_at(voice.default, envelope_of(bank, voice), index)
 }
 
@@ -173,35 +161,23 @@ pub(crate) fn event_of(
     Event { began, sound }
 }
 
-fn release_word(release: Release) -> u32
-    ensures { λ r. ⌜ r ≡ toldRelease release ⌝ }
-{
-    engine_base::release::quarter_frames(release) as u32
-}
-
-fn flag(b: bool) -> u32
-    ensures { λ r. ⌜ r ≡ pick b 1 0 ⌝ }
-{
-    if b { 1 } else { 0 }
-}
-
 // An event as numbers: 0 off, 1 rest, 2 note; whether it began; then three values.
 pub fn told(event: Event) -> [u32; 5]
     ensures { λ r. ⌜ r ≡ toldEvent event ⌝ }
 {
     let sound = event.sound;
-    let began = flag(event.began);
+    let began = answer::flag(event.began);
     match sound {
         Sound::Off => [0, 0, 0, 0, 0],
         Sound::SquareRest(ctrl1) => [1, began, 0, 0, ctrl1 as u32],
         Sound::TriangleRest(release) => {
-            let after = release_word(release);
+            let after = engine_base::release::quarter_frames(release);
             [1, began, 0, 0, after]
         }
         Sound::NoiseRest => [1, began, 0, 0, 0],
         Sound::Square(key, period, ctrl1) => [2, began, key as u32, period as u32, ctrl1 as u32],
         Sound::Triangle(key, period, release) => {
-            let after = release_word(release);
+            let after = engine_base::release::quarter_frames(release);
             [2, began, key as u32, period as u32, after]
         }
         Sound::Noise(first, second, third) => {

@@ -8,7 +8,7 @@ use Rattle.engine_base.specs.Refusal.{invalid-command, invalid-note, past-lengt
 use Rattle.metroid_format.specs.Command.{isKey, isPreset, noteAfter, commandOf, commandAt}
 use Rattle.engine_base.specs.Address.{bank-start, bank-end, within}
 use Rattle.metroid_format.specs.Bank.{published}
-use Rattle.engine_base.specs.Bytes.{wordAt}
+use Rattle.engine_base.specs.Bytes.{wordAt, periodAt}
 use Rattle.engine_base.specs.Envelope.{envelopeAddress, envelopeEnds}
 use Rattle.engine_base.specs.Loops.{counterOf}
 use Rattle.metroid_format.specs.Header.{
@@ -36,9 +36,10 @@ use Rattle.metroid_format.specs.Channel.{lengthFault, playedAt, stepOf, readFro
 use Rattle.metroid_format.specs.Timeline.{passedOf, passFrom, timelineOf, stopOf, soonestFrom}
 use Rattle.engine_base.specs.Release.{dynamic}
 use Rattle.metroid_player.specs.Release.{releaseOf}
-use Rattle.metroid_player.specs.Ctrl1.{defaultCtrl1, combined, ctrl1At}
+use Rattle.engine_base.specs.Ctrl1.{defaultCtrl1, combined}
+use Rattle.metroid_player.specs.Ctrl1.{ctrl1At}
 use Rattle.metroid_player.specs.Record.{soundFits, channelFits, recordFits}
-use Rattle.metroid_player.specs.Event.{periodAt, envelopeOf, melodicRest, noteCtrl1, melodicNote, noiseSound, soundOf}
+use Rattle.metroid_player.specs.Event.{envelopeOf, melodicRest, noteCtrl1, melodicNote, noiseSound, soundOf}
 use Rattle.metroid_player.specs.Frame.{turnOf, settleFrom, frameOfTrack, frameOf, startOf, toldFramed}
 use Rattle.metroid_player.specs.declared.frame.Framed.{Framed}
 use Rattle.metroid_check.specs.Run.{framesFrom, runOf}

@@ -112,7 +112,7 @@ pub(crate) fn tempos() {
     show_window(0x17);
 }
 
-fn show_note(frame: u32, key: u8, release: u8) {
+fn show_note(frame: u32, key: u8, release: u32) {
     print::number(frame as u64);
     print::hex(key as u64, 2);
     print::number(release as u64);

@@ -13,15 +13,17 @@ use Rattle.engine_base.specs.Pick.{pick}
 use Rattle.metroid_format.specs.declared.header.Voice.{Voice}
 use Rattle.metroid_format.specs.declared.header.Track.{Track}
 use Rattle.metroid_format.specs.declared.timeline.Finish.{Finish}
-use Rattle.metroid_player.specs.Record.{four, endedPlayer, channelsFit, recordFits}
-use Rattle.metroid_player.specs.Counts.{most-commands, AtMost}
+use Rattle.engine_base.specs.Channels.{four, AtMost}
+use Rattle.engine_base.proofs.Channels.{none-most}
+use Rattle.metroid_player.specs.Record.{endedPlayer, channelsFit, recordFits}
+use Rattle.metroid_player.specs.Counts.{most-commands}
 use Rattle.metroid_check.specs.Run.{lastFrom, lastCounted}
 use Rattle.metroid_player.specs.Frame.{Settled, eventless, framed, frameOfTrack}
 use Rattle.metroid_player.specs.declared.record.Player.{Player}
 use Rattle.metroid_player.specs.declared.event.Event.{Event}
 use Rattle.engine_base.specs.declared.answer.Answer.{Answer}
 use Rattle.metroid_player.specs.declared.frame.Framed.{Framed}
-use Rattle.metroid_player.proofs.frame.Counts.{none-most, frame-counts}
+use Rattle.metroid_player.proofs.frame.Counts.{frame-counts}
 use Rattle.metroid_check.specs.Countdown.{NumbersWithin}
 use Rattle.metroid_check.proofs.ahead.Settling.{
   Ahead,

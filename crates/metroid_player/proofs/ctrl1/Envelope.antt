@@ -9,7 +9,8 @@ use lib.Dec.{leb}
 use lib.ListN.{length, drop, getD}
 use lib.Seq.{drop-cons}
 use Rattle.engine_base.specs.Pick.{pick}
-use Rattle.metroid_player.specs.Ctrl1.{combined, byByte, ctrl1At}
+use Rattle.engine_base.specs.Ctrl1.{combined, byByte}
+use Rattle.metroid_player.specs.Ctrl1.{ctrl1At}
 
 -- what is given from byte i on: by the byte itself up to the index, by the rest past it
 abbrev pub turn : ℕ → List ℕ → ℕ → ℕ → ℕ

@@ -5,8 +5,6 @@ use mathlib.Core.List.{List, [], _∷_}
 use mathlib.Core.Path.{_≡_, refl}
 use native.Mathlib.Omega.{arith}
 use lib.Dec.{eqb}
-use lib.ListN.{set}
-use lib.Seq.{sets}
 use Rattle.metroid_format.specs.Command.{data-limit}
 use Rattle.metroid_format.specs.Channel.{channelSource, readUntil}
 use Rattle.metroid_format.specs.Header.{openTrack}
@@ -18,8 +16,10 @@ use Rattle.metroid_format.specs.declared.header.Voice.{Voice}
 use Rattle.metroid_format.specs.declared.header.Track.{Track}
 use Rattle.metroid_format.specs.declared.channel.Cursor.{Cursor}
 use Rattle.metroid_format.specs.declared.channel.Stop.{Stop}
-use Rattle.metroid_player.specs.Record.{four, cursorOf, recordFits}
-use Rattle.metroid_player.specs.Counts.{most-commands, AtMost}
+use Rattle.engine_base.specs.Channels.{four, AtMost}
+use Rattle.engine_base.proofs.Channels.{sets-most, none-most}
+use Rattle.metroid_player.specs.Record.{cursorOf, recordFits}
+use Rattle.metroid_player.specs.Counts.{most-commands}
 use Rattle.metroid_player.specs.Frame.{
   turnBy,
   turnOf,
@@ -44,18 +44,6 @@ AllLooped extra (v ∷ vs) [] = Unit {0}
 AllLooped extra (v ∷ vs) (c ∷ cs) = (v .used ≡ true → Looped extra (cursorOf c)) × AllLooped extra vs cs
 
 module _ (most : ℕ) where
-  set-most : (ns : List ℕ) (i n : ℕ) → n ≤ most → AtMost most ns → AtMost most (set ns i n)
-  set-most [] i n h a = tt
-  set-most (m ∷ ns) zero n h (l, a) = (h, a)
-  set-most (m ∷ ns) (suc i) n h (l, a) = (l, set-most ns i n h a)
-
-  sets-most : (ns : List ℕ) (i : ℕ) (read : List ℕ) → AtMost most read → AtMost most ns → AtMost most (sets ns i read)
-  sets-most ns i [] r a = a
-  sets-most ns i (n ∷ read) (h, r) a = sets-most (set ns i n) (suc i) read r (set-most ns i n h a)
-
-  pub none-most : AtMost most (four 0)
-  none-most = (omega arith, (omega arith, (omega arith, (omega arith, tt))))
-
   settle-by-most : (bank : List ℕ) (track : Track) (i : ℕ) (v : Voice) (t : Turn) (turned : Turned) (rest : Settled) →
       t .count ≤ most → AtMost most (rest .counts) → AtMost most (settleBy bank track i v t turned rest .counts)
   settle-by-most bank track i v t Turned.Off rest h a = (h, a)
@@ -65,11 +53,11 @@ module _ (most : ℕ) where
 
   framed-most : (track : Track) (player : Player) (s : Settled) (answer : Answer) → AtMost most (s .counts) →
       AtMost most (framedBy track player s answer .counts)
-  framed-most track player s Answer.Events a = sets-most (four 0) 0 (s .counts) a none-most
-  framed-most track player s Answer.End a = sets-most (four 0) 0 (s .counts) a none-most
-  framed-most track player s Answer.Stopped a = none-most
-  framed-most track player s (Answer.Refused number) a = none-most
-  framed-most track player s (Answer.Fault number i at address) a = sets-most (four 0) 0 (s .counts) a none-most
+  framed-most track player s Answer.Events a = sets-most most (four 0) 0 (s .counts) a (none-most most)
+  framed-most track player s Answer.End a = sets-most most (four 0) 0 (s .counts) a (none-most most)
+  framed-most track player s Answer.Stopped a = none-most most
+  framed-most track player s (Answer.Refused number) a = none-most most
+  framed-most track player s (Answer.Fault number i at address) a = sets-most most (four 0) 0 (s .counts) a (none-most most)
 
 module _ (bank : List ℕ) (track : Track) (extra : ℕ) (one : extra ≤ 1) where
   turn-by-count : (channel : Channel) (cursor : Cursor) (count : ℕ) (stop : Stop) → turnBy channel cursor count stop .count ≡ count

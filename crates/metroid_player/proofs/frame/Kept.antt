@@ -7,7 +7,8 @@ use Rattle.metroid_format.specs.Header.{openTrack}
 use Rattle.engine_base.proofs.Picks.{by-test}
 use Rattle.metroid_format.specs.declared.bank.Places.{Places}
 use Rattle.metroid_format.specs.declared.header.Track.{Track}
-use Rattle.metroid_player.specs.Record.{four, recordFits}
+use Rattle.engine_base.specs.Channels.{four}
+use Rattle.metroid_player.specs.Record.{recordFits}
 use Rattle.metroid_player.specs.Frame.{Settled, settleFrom, framedBy, frameOfTrack, frameOf}
 use Rattle.metroid_player.specs.declared.record.Player.{Player}
 use Rattle.engine_base.specs.declared.answer.Answer.{Answer}

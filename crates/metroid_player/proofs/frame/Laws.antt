@@ -1,12 +1,12 @@
 -- The steps of the frame rule, as the code takes them.
 use Prim.Native.Nat.{ℕ, _+_, _-_, _≤_, _<_}
 use mathlib.Core.Bool.{true, false}
-use mathlib.Core.List.{List, [], _∷_}
+use mathlib.Core.List.{List, []}
 use mathlib.Core.Path.{_≡_, refl, sym, ap, _∙_}
 use native.Mathlib.Omega.{arith}
 use native.Mathlib.Numerals.{add-one}
 use lib.ListN.{length, getD, set, take, drop, drop-of-length-le, length-set}
-use lib.Seq.{sets, take-take, drop-cons, drop-drop, drop-set-lt}
+use lib.Seq.{sets, take-take}
 use borrow.Author.Tests.{eq-eqb, ne-eqb}
 use Rattle.engine_base.specs.Address.{addressOf}
 use Rattle.metroid_format.specs.Command.{data-limit}
@@ -22,8 +22,10 @@ use Rattle.metroid_format.specs.declared.header.Track.{Track}
 use Rattle.metroid_format.specs.declared.channel.Cursor.{Cursor}
 use Rattle.metroid_format.specs.declared.channel.Stop.{Stop}
 use Rattle.metroid_format.specs.declared.channel.Until.{Until}
+use Rattle.engine_base.proofs.Channels.{drop-next, given-next, rest-set}
 use Rattle.engine_base.proofs.Picks.{pick-true, pick-false, pick-eq, pick-ne}
-use Rattle.metroid_player.specs.Record.{four, freshPlayer, endedPlayer, cursorOf}
+use Rattle.engine_base.specs.Channels.{four}
+use Rattle.metroid_player.specs.Record.{freshPlayer, endedPlayer, cursorOf}
 use Rattle.metroid_player.specs.Event.{offEvent, eventOf}
 use Rattle.metroid_player.specs.Frame.{begun, turnBy, oneOff, turnOfUntil, turnOf, Settled, settled, settleOn, settleBy, settleTurn, settleFrom, eventless, framed, stopFrame, startOf}
 use Rattle.metroid_player.specs.declared.record.Channel.{Channel}
@@ -144,25 +146,10 @@ module _ (bank : List ℕ) (track : Track) (player : Player) where
       abbrev channel : Channel
       channel = getD channels i dc
 
-      voices-next : drop i (track .voices) ≡ voice ∷ drop (i + 1) (track .voices)
-      voices-next =
-          let v : i < length (track .voices) = omega (arith, m .voices-four) in
-          rw add-one (drop-cons (track .voices) i dv v)
-
-      channels-here : drop i channels ≡ channel ∷ drop (i + 1) channels
-      channels-here =
-          let c : i < length channels = omega (arith, m .channels-four) in
-          rw add-one (drop-cons channels i dc c)
-
-      given-next : drop (i + 1) channels ≡ drop (i + 1) (player .channels)
-      given-next = sym (drop-drop 1 i channels) ∙ ap (drop 1) (m .rest-given) ∙ drop-drop 1 i (player .channels)
-
-      channels-next : drop i (player .channels) ≡ channel ∷ drop (i + 1) (player .channels)
-      channels-next = sym (m .rest-given) ∙ channels-here ∙ rw given-next
-
       settled-next : settledFrom i ≡ settleTurn bank track i voice (turnOf bank track voice channel) (settledFrom (i + 1))
       unfolding settleFrom
-      settled-next = rw (voices-next, channels-next)
+      settled-next =
+          rw (drop-next (track .voices) i dv (m .voices-four) h, given-next (player .channels) channels i (m .rest-given) dc (m .channels-four) h)
 
       -- t is what `take_turn` answers
       module _ (t : Turn) (q : t ≡ turnOf bank track voice channel) where
@@ -177,7 +164,7 @@ module _ (bank : List ℕ) (track : Track) (player : Player) where
           events-four = length-set events i event ∙ m .events-four;
           counts-four = length-set counts i (t .count) ∙ m .counts-four;
           channels-four = length-set channels i next ∙ m .channels-four;
-          rest-given = drop-set-lt (i + 1) channels i next (omega arith) ∙ given-next;
+          rest-given = rest-set (player .channels) channels i (m .rest-given) next;
           same-answer = m .same-answer ∙ rw s;
           same-events = m .same-events ∙ rw (s, add-one i);
           same-counts = m .same-counts ∙ rw (s, add-one i);

@@ -18,7 +18,8 @@ use Rattle.metroid_format.specs.declared.header.Voice.{Voice}
 use Rattle.metroid_format.specs.declared.header.Track.{Track}
 use Rattle.metroid_format.specs.declared.channel.Cursor.{Cursor}
 use Rattle.metroid_format.specs.declared.channel.Stop.{Stop}
-use Rattle.metroid_player.specs.Record.{four, freshChannel, cursorOf, recordFits}
+use Rattle.engine_base.specs.Channels.{four}
+use Rattle.metroid_player.specs.Record.{freshChannel, cursorOf, recordFits}
 use Rattle.metroid_player.specs.Event.{offEvent, eventOf}
 use Rattle.metroid_player.specs.Frame.{oneOff, turnBy, turnOf, Settled, settleBy, settleTurn, settleFrom, framedBy, frameOfTrack}
 use Rattle.engine_base.specs.Answer.{answerKind}

@@ -1,5 +1,5 @@
 use borrow.Author.Needs.{needs}
-use Rattle.metroid_player.specs.Event.{periodAt}
+use Rattle.engine_base.specs.Bytes.{periodAt}
 use Rattle.metroid_player.proofs.event.period_at.Statement.{statement}
 use Rattle.metroid_player.proofs.event.period_at.Tie as tie
 
