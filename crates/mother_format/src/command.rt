@@ -98,7 +98,7 @@ fn is_preset(b: u8) -> bool
 }
 
 // Whether b names a key, a preset or a rest of the kind, under some transpose.
-fn is_note(kind: Kind, b: u8) -> bool
+pub fn is_note(kind: Kind, b: u8) -> bool
     ensures { λ r. ⌜ r ≡ isNote kind b ⌝ }
 {
     match kind {

@@ -2,7 +2,7 @@
 pub mod bank;
 pub mod channel;
 pub mod command;
-mod envelope;
+pub mod envelope;
 pub mod header;
 pub mod playlist;
 pub mod straight;

@@ -3,10 +3,12 @@ ghost use mathlib.Core.Path.{_≡_};
 ghost use Rattle.mother_format.specs.Transpose.{amountOf, isOdd, transposedOf};
 
 // The key byte that is a rest, before and after transposing.
-const REST: u8 = 0x02;
+pub const REST: u8 = 0x02;
 
 // The last key byte of the period table.
-const LAST_KEY: i16 = 0x84;
+pub const LAST_KEY: u8 = 0x84;
+
+const LAST_SUM: i16 = LAST_KEY as i16;
 
 // What a note sounds, of its channel's key bytes or presets.
 pub enum Sounding {
@@ -45,7 +47,7 @@ pub(crate) fn transposed(b: u8, transpose: u8) -> Sounding
     if sum < 0 {
         return Sounding::Outside;
     }
-    if LAST_KEY < sum {
+    if LAST_SUM < sum {
         return Sounding::Outside;
     }
     Sounding::Byte(sum as u8)

@@ -11,10 +11,11 @@ use Rattle.engine_base.specs.Refusal.{wrong-size, table-outside, no-track, head
 use Rattle.engine_base.specs.Address.{offsetOf, within}
 use Rattle.mother_format.specs.Bank.{bank-size, banks}
 use Rattle.mother_format.specs.Transpose.{isOdd}
-use Rattle.mother_format.specs.Header.{placesFit, headerAddress, header-size, placesNumber, addressesFit, allUnused, headerNumber, numberOf, openTrack}
+use Rattle.mother_format.specs.Header.{placesFit, headerAddress, header-size, placesNumber, addressesFit, allUnused, headerNumber, numberOf, voicesOf, trackOf, openTrack}
 use Rattle.engine_base.proofs.Picks.{by-test, passed}
 use Rattle.engine_base.proofs.address.Inside.{inside}
 use Rattle.mother_format.specs.declared.bank.Places.{Places}
+use Rattle.mother_format.specs.declared.header.Track.{Track}
 
 pub header-fits : (bank8 banka : List ℕ) (places : Places) (track number address offset : ℕ) →
     number ≡ placesNumber bank8 banka places track → number ≡ 0 →
@@ -70,3 +71,8 @@ unfolding openTrack numberOf
 unopened bank8 banka places track =
     by-test Named (eqb (placesNumber bank8 banka places track) 0) (λ _. header-named (banks bank8 banka) _) λ _.
     places-named bank8 banka places track
+
+pub four-voices : (bank8 banka : List ℕ) (places : Places) (track : ℕ) → length (openTrack bank8 banka places track .track .voices) ≤ 4
+unfolding openTrack trackOf voicesOf
+four-voices bank8 banka places track =
+    by-test (λ (t : Track). length (t .voices) ≤ 4) (eqb (numberOf bank8 banka places track) 0) (λ _. omega arith) λ _. omega arith

@@ -1,0 +1,4 @@
+pub mod Laws
+pub mod Place
+pub mod Counts
+pub mod Kept
