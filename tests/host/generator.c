@@ -7,7 +7,7 @@
 #include <string.h>
 #include <sys/mman.h>
 
-enum { SLOT = 1024, SLOTS = 16, ENVELOPE_ROOM = 72, ENVELOPE_LIMIT = 64, PLACES = 6, DAMAGES = 12 };
+enum { ENVELOPE_ROOM = 72, ENVELOPE_LIMIT = 64, DAMAGES = 12 };
 
 static uint64_t state;
 
@@ -35,9 +35,14 @@ int one_in(uint32_t n)
     return below(n) == 0;
 }
 
-static uint8_t any_byte(void)
+uint8_t any_byte(void)
 {
     return (uint8_t)below(256);
+}
+
+size_t answer_room(uint32_t words, uint32_t most)
+{
+    return one_in(3) ? below(most + 1) : words;
 }
 
 uint8_t *fenced_memory(void)
@@ -89,15 +94,14 @@ void random_data(int noise, uint8_t *bytes, size_t size)
     }
 }
 
-/* An address in the slot for so many bytes, often at one of its ends. */
-static uint32_t address_in(uint32_t slot, uint32_t size)
+uint32_t address_in(uint32_t slot, uint32_t size)
 {
     uint32_t room = SLOT - size;
     uint32_t within = one_in(4) ? 0 : one_in(4) ? room : below(room + 1);
     return FIRST_ADDRESS + SLOT * slot + within;
 }
 
-static void shuffle(uint32_t slots[SLOTS])
+void shuffle(uint32_t slots[SLOTS])
 {
     for (uint32_t i = 0; i < SLOTS; i++)
         slots[i] = i;
@@ -109,25 +113,40 @@ static void shuffle(uint32_t slots[SLOTS])
     }
 }
 
-static void fill_bank(setup *s)
+void fill_bank(uint8_t *bank, size_t size)
 {
     int zeros = one_in(2);
-    for (size_t i = 0; i < HEM_BANK_SIZE; i += sizeof(uint64_t)) {
+    for (size_t i = 0; i < size; i += sizeof(uint64_t)) {
         uint64_t eight = zeros ? 0 : random_bits();
-        memcpy(s->bank + i, &eight, sizeof eight);
+        memcpy(bank + i, &eight, sizeof eight);
     }
+}
+
+void scatter(const table tables[PLACES], const uint32_t slots[PLACES])
+{
+    for (int i = 0; i < PLACES; i++)
+        *tables[i].address = address_in(slots[i], tables[i].size);
+}
+
+/* `block`: how many bytes of the header block must be in the bank. */
+static void tables_of(setup *s, uint32_t block, table tables[PLACES])
+{
+    ref_places *p = &s->places;
+    const table all[PLACES] = {
+        { &p->header_offsets, p->track_count }, { &p->header_block, block },
+        { &p->note_lengths, LENGTH_BYTES },     { &p->key_periods, PERIOD_BYTES },
+        { &p->noise_presets, PRESET_BYTES },    { &p->envelope_addresses, ENVELOPE_TABLE_BYTES },
+    };
+    memcpy(tables, all, sizeof all);
 }
 
 static void choose_places(setup *s, const uint32_t slots[PLACES])
 {
+    table tables[PLACES];
     ref_places *p = &s->places;
     p->track_count = 1 + below(one_in(4) ? 255 : 12);
-    p->header_offsets = address_in(slots[0], p->track_count);
-    p->header_block = address_in(slots[1], 255 + HEADER_BYTES);
-    p->note_lengths = address_in(slots[2], LENGTH_BYTES);
-    p->key_periods = address_in(slots[3], PERIOD_BYTES);
-    p->noise_presets = address_in(slots[4], PRESET_BYTES);
-    p->envelope_addresses = address_in(slots[5], ENVELOPE_TABLE_BYTES);
+    tables_of(s, 255 + HEADER_BYTES, tables);
+    scatter(tables, slots);
     p->default1 = one_in(3) ? 0 : any_byte();
     p->default2 = one_in(3) ? 0 : any_byte();
     s->track = below(p->track_count);
@@ -180,8 +199,7 @@ static void fill_header(setup *s, const uint32_t slots[HEM_CHANNELS])
     }
 }
 
-/* A number beside the first or behind the last right one, far off, or right in its low bits only. */
-static uint32_t wrong_number(uint32_t first, uint32_t last, uint32_t right)
+uint32_t wrong_number(uint32_t first, uint32_t last, uint32_t right)
 {
     switch (below(6)) {
     case 0: return first - below(3);
@@ -193,23 +211,26 @@ static uint32_t wrong_number(uint32_t first, uint32_t last, uint32_t right)
     }
 }
 
-static void damage_place(setup *s)
+void damage_place(const table tables[PLACES])
 {
-    uint32_t *const places[PLACES] = { &s->places.header_offsets, &s->places.header_block, &s->places.note_lengths,
-                                       &s->places.key_periods, &s->places.noise_presets,
-                                       &s->places.envelope_addresses };
-    const uint32_t sizes[PLACES] = { s->places.track_count, 1, LENGTH_BYTES, PERIOD_BYTES, PRESET_BYTES,
-                                     ENVELOPE_TABLE_BYTES };
     uint32_t which = below(PLACES);
-    *places[which] = wrong_number(FIRST_ADDRESS, AFTER_BANK - sizes[which], *places[which]);
+    uint32_t *address = tables[which].address;
+    *address = wrong_number(FIRST_ADDRESS, AFTER_BANK - tables[which].size, *address);
 }
 
-static void damage_length(setup *s)
+static void damage_one_place(setup *s)
 {
-    uint32_t beside = HEM_BANK_SIZE - 2 + below(5);
-    uint8_t *end = s->bank + s->bank_len;
-    s->bank_len = one_in(2) ? beside : below(LONGEST_BANK + 1);
-    s->bank = end - s->bank_len;
+    table tables[PLACES];
+    tables_of(s, 1, tables);
+    damage_place(tables);
+}
+
+void damage_length(uint8_t **bank, size_t *bank_len, size_t right)
+{
+    size_t beside = right - 2 + below(5);
+    uint8_t *end = *bank + *bank_len;
+    *bank_len = one_in(2) ? beside : below(LONGEST_BANK + 1);
+    *bank = end - *bank_len;
 }
 
 /* Moves the block so that the header ends within three bytes of the bank's end. */
@@ -253,7 +274,7 @@ static void damage(setup *s)
 {
     uint8_t *header = header_of(s);
     switch (below(DAMAGES)) {
-    case 0: damage_length(s); return;
+    case 0: damage_length(&s->bank, &s->bank_len, HEM_BANK_SIZE); return;
     case 1: s->places.track_count = wrong_number(1, 255, s->places.track_count); return;
     case 2: s->track = wrong_number(0, s->places.track_count - 1, s->track); return;
     case 3: damage_block(s); return;
@@ -264,7 +285,7 @@ static void damage(setup *s)
     case 8: header[below(HEADER_BYTES)] = any_byte(); return;
     case 9: s->bank[below(HEM_BANK_SIZE)] = any_byte(); return;
     case 10: name_channel(s, (int)below(HEM_CHANNELS), AFTER_BANK - 1 - below(4)); return;
-    default: damage_place(s); return;
+    default: damage_one_place(s); return;
     }
 }
 
@@ -274,7 +295,7 @@ void random_setup(setup *s, uint8_t *memory)
     s->bank_len = HEM_BANK_SIZE;
     s->bank = memory + LONGEST_BANK - HEM_BANK_SIZE;
     shuffle(slots);
-    fill_bank(s);
+    fill_bank(s->bank, s->bank_len);
     choose_places(s, slots);
     fill_tables(s);
     fill_envelopes(s, slots[PLACES]);

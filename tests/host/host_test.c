@@ -6,10 +6,10 @@
 #include <stdlib.h>
 #include <string.h>
 
-enum { DEFAULT_ROUNDS = 90000, MOST_MESSAGES = 20 };
+enum { DEFAULT_ROUNDS = 90000, MOST_MESSAGES = 20, LAST_NUMBER = HEM_TOO_MANY_COMMANDS };
 
 #ifdef WITHOUT_WORDS
-static const library_call last_call = FRAME;
+static const library_call last_call = MOTHER_FRAME;
 #else
 static const library_call last_call = WRITE_WORDS;
 #endif
@@ -23,6 +23,11 @@ static const struct { const char *name; uint32_t numbers; } calls[CALLS] = {
     [CHECK] = { "check", FROM_TO(HEM_OK, HEM_PAST_DATA) },
     [START] = { "start", FROM_TO(HEM_OK, HEM_NO_CHANNEL) },
     [FRAME] = { "frame", FROM_TO(HEM_OK, HEM_BAD_RECORD) },
+    [MOTHER_START] = { "mother start", FROM_TO(HEM_OK, HEM_BAD_HEADER) | FROM_TO(HEM_BAD_ADDRESS, HEM_NO_CHANNEL)
+                                           | ONE(HEM_ODD_TRANSPOSE) },
+    [MOTHER_FRAME] = { "mother frame", FROM_TO(HEM_OK, HEM_BAD_HEADER)
+                                           | FROM_TO(HEM_BAD_ENVELOPE_NUMBER, HEM_BAD_RECORD)
+                                           | FROM_TO(HEM_ODD_TRANSPOSE, HEM_TOO_MANY_COMMANDS) },
     [READ_WORDS] = { "read words", ONE(HEM_OK) | FROM_TO(HEM_NO_COMMAND, HEM_NO_SUCH_KEY) | ONE(HEM_PAST_DATA)
                                        | ONE(HEM_NO_ROOM) },
     [WRITE_WORDS] = { "write words", ONE(HEM_OK) | FROM_TO(HEM_BAD_WORD, HEM_NO_ROOM) },
@@ -30,7 +35,7 @@ static const struct { const char *name; uint32_t numbers; } calls[CALLS] = {
 
 static const char *part = "";
 static unsigned long part_began, part_least, round_now, expected, failed;
-static unsigned long hits[CALLS][HEM_NO_ROOM + 1];
+static unsigned long hits[CALLS][LAST_NUMBER + 1];
 
 void expect(int holds, const char *text, const char *file, int line)
 {
@@ -58,8 +63,8 @@ void begin_round(unsigned long round)
 
 void count_number(library_call call, uint32_t number)
 {
-    EXPECT(number <= HEM_NO_ROOM);
-    if (number <= HEM_NO_ROOM)
+    EXPECT(number <= LAST_NUMBER);
+    if (number <= LAST_NUMBER)
         hits[call][number]++;
 }
 
@@ -109,7 +114,7 @@ static void report_numbers(library_call call)
 {
     begin_part(calls[call].name, 0);
     printf("numbers returned by %s:", calls[call].name);
-    for (unsigned long number = 0; number <= HEM_NO_ROOM; number++) {
+    for (unsigned long number = 0; number <= LAST_NUMBER; number++) {
         begin_round(number);
         EXPECT((hits[call][number] > 0) == ((calls[call].numbers & ONE(number)) != 0));
         if (hits[call][number] > 0)
@@ -141,6 +146,7 @@ int main(int argc, char **argv)
 #ifndef WITHOUT_WORDS
     test_words(rounds);
 #endif
+    test_mother(rounds);
     for (library_call call = CHECK; call <= last_call; call++)
         report_numbers(call);
     printf("host test: %lu rounds, seed %lu: %lu expectations, %lu failed\n", rounds, seed, expected, failed);

@@ -24,4 +24,23 @@ STANDS_AT(hem_player, channels, 2, 32);
 STANDS_AT(hem_player, frames_left, 36, 4);
 STANDS_AT(hem_player, pass_length, 40, 4);
 
+static_assert(sizeof(hem_mother_channel) == 16 && alignof(hem_mother_channel) == 2, "hem_mother_channel");
+STANDS_AT(hem_mother_channel, list, 0, 2);
+STANDS_AT(hem_mother_channel, row, 2, 2);
+STANDS_AT(hem_mother_channel, block, 4, 2);
+STANDS_AT(hem_mother_channel, next, 6, 2);
+STANDS_AT(hem_mother_channel, loop_start, 8, 2);
+STANDS_AT(hem_mother_channel, counter, 10, 1);
+STANDS_AT(hem_mother_channel, length, 11, 1);
+STANDS_AT(hem_mother_channel, left, 12, 1);
+STANDS_AT(hem_mother_channel, sounding, 13, 1);
+STANDS_AT(hem_mother_channel, timbre, 14, 1);
+STANDS_AT(hem_mother_channel, ctrl, 15, 1);
+
+static_assert(sizeof(hem_mother_player) == 68 && alignof(hem_mother_player) == 2, "hem_mother_player");
+STANDS_AT(hem_mother_player, stopped, 0, 1);
+STANDS_AT(hem_mother_player, transpose, 1, 1);
+STANDS_AT(hem_mother_player, window, 2, 1);
+STANDS_AT(hem_mother_player, channels, 4, 64);
+
 #endif

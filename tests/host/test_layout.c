@@ -1,6 +1,7 @@
 /* The record as C sees it and as the library writes it. */
 #include "host_test.h"
 #include "layout.h"
+#include "setup_mother.h"
 
 #include <string.h>
 
@@ -51,11 +52,55 @@ static void test_bytes(const setup *s)
     EXPECT(player.frames_left == 5 && player.pass_length == 6);
 }
 
+static void test_mother_words_told(void)
+{
+    EXPECT(HEM_MOTHER_ANSWER_PARTS == 8 && HEM_MOTHER_ANSWER_WORDS == 32 && HEM_MOTHER_PART_WORDS == 6);
+    EXPECT(HEM_MOTHER_PART_PITCH == 5 && HEM_MOTHER_PART_DMC == 5);
+    EXPECT(HEM_MOTHER_ANSWER_PART(HEM_CHANNELS) == HEM_MOTHER_ANSWER_WORDS);
+    EXPECT(HEM_MOTHER_ANSWER_WORDS == MOTHER_ANSWER_WORDS);
+}
+
+/* A Mother record's bytes after start and a first frame, worked out by hand from playlists and blocks. */
+static void test_mother_bytes(const mother_setup *s)
+{
+    static const uint8_t after_one[64] = {
+        0x02, 0xA4, 1, 0, 0x00, 0x94, 6, 0, 1, 0, 1, 2, 1, 0x24, 0x63, 0xB4, /* square 1 */
+        0,    0,    0, 0, 0,    0,    0, 0, 0, 0, 0, 0, 0, 0,    0,    0,    /* square 2, unused */
+        0x82, 0xA4, 1, 0, 0x00, 0x98, 2, 0, 0, 0, 0, 9, 8, 0x1A, 0,    32,   /* triangle */
+        0xC2, 0xA4, 1, 0, 0x00, 0x9A, 2, 0, 0, 0, 0, 6, 5, 0x44, 0,    0,    /* noise */
+    };
+    hem_mother_player player;
+    uint32_t answer[HEM_MOTHER_ANSWER_WORDS];
+    const uint8_t zeros[sizeof after_one] = { 0 };
+    fill_pattern(&player, sizeof player);
+    EXPECT(hem_mother_start(&player, MOTHER_SETUP(s)) == HEM_OK);
+    EXPECT(player.stopped == 0 && player.transpose == 4 && player.window == 1);
+    EXPECT(memcmp(player.channels, zeros, sizeof zeros) == 0);
+    EXPECT(hem_mother_frame(&player, MOTHER_SETUP(s), answer, HEM_MOTHER_ANSWER_WORDS) == HEM_OK);
+    EXPECT(player.stopped == 0 && player.transpose == 4 && player.window == 1);
+    EXPECT(memcmp(player.channels, after_one, sizeof after_one) == 0);
+}
+
+static void test_mother_layout(void)
+{
+    static uint8_t bank8[HEM_MOTHER_BANK_SIZE], banka[HEM_MOTHER_BANK_SIZE];
+    mother_setup s;
+    plain_mother_setup(&s, bank8, banka);
+    put_mother_bytes(&s, mother_header_of(&s), BYTES(4, 1));
+    put_mother_word(&s, s.places.envelope_addresses + 4, 0x8000);
+    *mother_byte_at(&s, 0x8000) = 0xFF;
+    play_block(&s, HEM_SQUARE_1, BYTES(0xC2, 0x9F, 0x63, 0xB4, 0xB0, 0x20, 0x00));
+    play_block(&s, HEM_TRIANGLE, BYTES(0xB7, 0x16, 0x00));
+    play_block(&s, HEM_NOISE, BYTES(0xB4, 0x44, 0x00));
+    test_mother_words_told();
+    test_mother_bytes(&s);
+}
+
 void test_layout(void)
 {
     static uint8_t bank[HEM_BANK_SIZE];
     setup s;
-    begin_part("layout", 19);
+    begin_part("layout", 29);
     plain_setup(&s, bank);
     use_channel(&s, HEM_SQUARE_1, BYTES(0xC2, 0xB1, 0x2A, 0xFF, 0x00));
     use_channel(&s, HEM_TRIANGLE, BYTES(0xB0, 0x30, 0x00));
@@ -63,4 +108,5 @@ void test_layout(void)
     test_words_told();
     test_extent(&s);
     test_bytes(&s);
+    test_mother_layout();
 }

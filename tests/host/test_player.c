@@ -90,11 +90,6 @@ static uint32_t compare_frame(const setup *s, hem_player *player, size_t room)
     return number;
 }
 
-static size_t random_room(void)
-{
-    return one_in(3) ? below(MOST_ROOM + 1) : HEM_ANSWER_WORDS;
-}
-
 /* Frames from start or from a random record, which may be swapped for another on the way. */
 static void compare_run(const setup *s)
 {
@@ -104,7 +99,7 @@ static void compare_run(const setup *s)
     if (one_in(2))
         random_record(&player);
     for (uint32_t i = 0; i < frames; i++) {
-        uint32_t number = compare_frame(s, &player, random_room());
+        uint32_t number = compare_frame(s, &player, answer_room(HEM_ANSWER_WORDS, MOST_ROOM));
         if (number != HEM_OK && one_in(2))
             random_record(&player);
     }

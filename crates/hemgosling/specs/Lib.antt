@@ -3,3 +3,5 @@ pub mod Tell
 pub mod Judge
 pub mod Play
 pub mod Words
+pub mod MotherPlaces
+pub mod MotherPlay

@@ -1,5 +1,8 @@
 // What a host written in C links: the calls that include/hemgosling.h declares.
 pub mod judge;
+mod mother_places;
+pub mod mother_play;
 mod places;
 pub mod play;
+mod tell;
 pub mod words;

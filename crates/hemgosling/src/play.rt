@@ -1,5 +1,6 @@
 // Start and frame, for a host that lends its one record.
 use crate::places;
+use crate::tell;
 use engine_base::answer;
 use engine_base::answer::Answer;
 use engine_base::buffer;
@@ -7,20 +8,14 @@ use metroid_player::event;
 use metroid_player::event::Event;
 use metroid_player::frame::Started;
 use metroid_player::record::Player;
-ghost use Prim.Native.Nat.{ℕ};
 ghost use mathlib.Core.Path.{_≡_};
 ghost use mathlib.Core.List.{_∷_, _++_};
 ghost use lib.Seq.{sets};
 ghost use Rattle.engine_base.specs.Answer.{answerKind, answerPlace};
-ghost use Rattle.metroid_player.specs.Frame.{frameOf, toldEvents, toldFramed, AnswerWithin};
+ghost use Rattle.metroid_player.specs.Frame.{frameOf, toldEvents, toldFramed};
 ghost use Rattle.hemgosling.specs.Places.{placesOf};
+ghost use Rattle.hemgosling.specs.Tell.{Placed};
 ghost use Rattle.hemgosling.specs.Play.{Starts, Steps, Starting, steppedOf};
-
-// Where the commands read stand in an answer.
-const COUNTS: usize = 1;
-
-// Where the channel, the offset and the address of a refusal stand.
-const PLACE: usize = 5;
 
 // Where the frames left stand.
 const LEFT: usize = 8;
@@ -35,19 +30,6 @@ const EVENT_WORDS: usize = 5;
 pub struct Stepped {
     pub number: u32,
     pub player: Player,
-}
-
-fn place_of(answer: Answer) -> [u32; 3]
-    requires { ⌜ ((start : ℕ → ℕ) × AnswerWithin start 4 answer) ⌝ }
-    ensures { λ r. ⌜ r ≡ answerPlace answer ⌝ }
-{
-    match answer {
-        Answer::Events => [0, 0, 0],
-        Answer::End => [0, 0, 0],
-        Answer::Stopped => [0, 0, 0],
-        Answer::Refused(_) => [0, 0, 0],
-        Answer::Fault(_, channel, at, address) => [channel as u32, at as u32, address],
-    }
 }
 
 // The channels' words, in order.
@@ -70,12 +52,10 @@ fn put_answer(
     frames_left: u32,
     events: [Event; 4],
 )
-    requires { ⌜ ((start : ℕ → ℕ) × AnswerWithin start 4 answer) ⌝ }
+    requires { ⌜ Placed answer ⌝ }
     ensures { λ _. ⌜ now (out .exit) ≡ sets (now (out .entry)) 0 (answerKind answer ∷ counts ++ (answerPlace answer ++ («frames_left» ∷ toldEvents events))) ⌝ }
 {
-    buffer::fill32(out, 0, &[answer::kind_of(answer)]);
-    buffer::fill32(out, COUNTS, &counts);
-    buffer::fill32(out, PLACE, &place_of(answer));
+    tell::put_head(out, answer, counts);
     buffer::fill32(out, LEFT, &[frames_left]);
     put_events(out, events);
 }

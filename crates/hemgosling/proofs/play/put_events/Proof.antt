@@ -2,12 +2,15 @@ use Prim.Native.Nat.{_-_}
 use mathlib.Core.Path.{refl}
 use native.Mathlib.Omega.{arith}
 use borrow.Author.Needs.{needs}
-use Rattle.hemgosling.proofs.play.Laws.{Putting, putting-more, all-put}
+use Rattle.metroid_player.specs.Event.{toldEvent}
+use Rattle.metroid_player.specs.Frame.{toldEvents}
+use Rattle.hemgosling.proofs.tell.Laws.{Putting, putting-more, all-put}
+use Rattle.hemgosling.proofs.play.Laws.{place, five}
 use Rattle.hemgosling.proofs.play.put_events.Statement.{statement}
 use Rattle.hemgosling.proofs.play.put_events.Tie as tie
 
 abbrev Inv-loop : tie.InvT-loop
-Inv-loop out₀ events i₀ out i = Putting out₀ events out i
+Inv-loop out₀ events i₀ out i = Putting toldEvent toldEvents place out₀ events out i
 
 abbrev μ-loop : tie.MeasureT-loop
 μ-loop out₀ events i₀ out i = 4 - i
@@ -28,6 +31,6 @@ put-events-spec =
     (λ c κs. search needs)
     (λ c. omega arith)
     (λ c. omega arith)
-    (λ c. search putting-more depth 10)
+    (λ c. putting-more _ _ _ _ _ _ _ (c .before .before .before .before .before .before .before .before .loop .inv) (λ _ _. refl) (five _) (c .before .before .before .before .before .before .before .loop-test .taken) _ _ (c .before .before .before .before .told .ensures) _ (c .before .before .fill32 .ensures))
     (λ c. search needs)
-    (λ c. search all-put depth 8))
+    (λ c. all-put _ _ _ _ _ _ _ (c .before .loop .inv) refl (c .loop-test .left)))

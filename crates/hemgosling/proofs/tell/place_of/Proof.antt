@@ -1,7 +1,7 @@
 use borrow.Author.Needs.{needs}
-use Rattle.hemgosling.proofs.play.Laws.{fault-channel}
-use Rattle.hemgosling.proofs.play.place_of.Statement.{statement}
-use Rattle.hemgosling.proofs.play.place_of.Tie as tie
+use Rattle.hemgosling.proofs.tell.Laws.{fault-channel}
+use Rattle.hemgosling.proofs.tell.place_of.Statement.{statement}
+use Rattle.hemgosling.proofs.tell.place_of.Tie as tie
 
 pub place-of-spec : {M : Type 1} → statement M
 place-of-spec =
