@@ -105,7 +105,7 @@ stepOf kind r (Played.Timbre x base next) = again Place.Block (timbred (r .chann
 stepOf kind r (Played.Note b next) = noteBegun r (begun (r .channel) b)
 stepOf kind r (Played.Refused number at address) = record { stepped = Stepped.Refused number at address; reader = r }
 
--- the command of the block at the channel's offset
+-- a channel that stands behind a command that it has played
 abbrev pub behind : Reader → Played → Reader
 behind r p = record {
   place = r .place;
@@ -113,8 +113,10 @@ behind r p = record {
   setting = r .setting;
 }
 
+-- the command of the block at the channel's offset
 abbrev pub blockStep : List ℕ → List ℕ → Places → Kind → Reader → Step
-blockStep bank8 banka places kind r = by (playedAt (blockSource bank8 banka places kind (r .channel .block)) (r .setting) (r .channel .length) (r .channel .next))
+blockStep bank8 banka places kind r =
+    by (playedAt (blockSource bank8 banka places kind (r .channel .block)) (r .setting) (r .channel .length) (r .channel .next))
   where
     by : Played → Step
     by p = stepOf kind (behind r p) p
