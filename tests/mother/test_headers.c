@@ -26,6 +26,18 @@ static void expect_started(game *g)
     CHECK(same_player(&player, &wanted));
 }
 
+/* This size of one of the two banks, in memory that has it. */
+static void expect_bad_size(game *g, uint8_t **bank, size_t *bank_len, size_t size)
+{
+    static uint8_t longest[2 * MOTHER_BANK_SIZE];
+    uint8_t *kept = *bank;
+    *bank = longest;
+    *bank_len = size;
+    expect_number(g, REF_BAD_BANK_SIZE);
+    *bank = kept;
+    *bank_len = MOTHER_BANK_SIZE;
+}
+
 static void test_sizes(void)
 {
     static const size_t bad[] = { 0, MOTHER_BANK_SIZE - 1, MOTHER_BANK_SIZE + 1, 2 * MOTHER_BANK_SIZE };
@@ -34,12 +46,8 @@ static void test_sizes(void)
     expect_started(g);
     g->track = 24;
     for (size_t i = 0; i < sizeof bad / sizeof bad[0]; i++) {
-        g->bank8_len = bad[i];
-        expect_number(g, REF_BAD_BANK_SIZE);
-        g->bank8_len = MOTHER_BANK_SIZE;
-        g->banka_len = bad[i];
-        expect_number(g, REF_BAD_BANK_SIZE);
-        g->banka_len = MOTHER_BANK_SIZE;
+        expect_bad_size(g, &g->bank8, &g->bank8_len, bad[i]);
+        expect_bad_size(g, &g->banka, &g->banka_len, bad[i]);
     }
     expect_number(g, REF_BAD_TRACK);
     free_game(g);
