@@ -1,5 +1,5 @@
 -- A refused frame has a number of the papers' tables; a refusal while reading names one of the four channels, an offset within a
--- block's limit and, of 10 to 15, the address there: a block's plus the offset, at most $c0ff.
+-- block's limit and, of 10 to 15, an address: the offset plus a number below $c000, at most $c0ff.
 use Prim.Native.Nat.{ℕ, zero, suc, _+_, _≤_, _<_}
 use mathlib.Core.Bool.{true, false}
 use mathlib.Core.List.{List, [], _∷_}
