@@ -2,6 +2,8 @@
 #include "measure.h"
 #include "setup_mother.h"
 
+#include <string.h>
+
 #define SECOND_BLOCK_OF(channel) (BLOCK_OF(channel) + 0x100u)
 
 /* A track, and the records that its starts have made. */
@@ -11,6 +13,20 @@ typedef struct {
     hem_mother_player player;
     mother_player reference;
 } mother_started;
+
+static void check_library(const void *started)
+{
+    const mother_started *t = started;
+    uint32_t verdict[HEM_VERDICT_WORDS];
+    sink = hem_mother_check(MOTHER_SETUP(t->s), verdict, HEM_VERDICT_WORDS);
+}
+
+static void check_reference(const void *started)
+{
+    const mother_started *t = started;
+    uint32_t verdict[MOTHER_VERDICT_WORDS];
+    sink = mother_check(&t->banks, &t->s->places, t->s->track, verdict, MOTHER_VERDICT_WORDS);
+}
 
 static void start_library(const void *started)
 {
@@ -110,6 +126,19 @@ static void many_commands(const mother_setup *s)
     play_block(s, HEM_SQUARE_1, bytes, sizeof bytes);
 }
 
+/* A block of 253 notes, named 256 times. */
+static void many_blocks(const mother_setup *s)
+{
+    uint8_t bytes[HEM_MOTHER_BLOCK_LIMIT];
+    memset(bytes, 0x30, sizeof bytes);
+    bytes[0] = 0xB0;
+    bytes[sizeof bytes - 1] = 0x00;
+    play_block(s, HEM_SQUARE_1, bytes, sizeof bytes);
+    for (uint32_t i = 0; i < MOTHER_MOST_BLOCK_WORDS; i++)
+        put_mother_word(s, LIST_OF(HEM_SQUARE_1) + 2 * i, BLOCK_OF(HEM_SQUARE_1));
+    put_mother_word(s, LIST_OF(HEM_SQUARE_1) + 2 * MOTHER_MOST_BLOCK_WORDS, 0x0000);
+}
+
 void compare_mother(void)
 {
     static uint8_t bank8[HEM_MOTHER_BANK_SIZE], banka[HEM_MOTHER_BANK_SIZE];
@@ -117,10 +146,15 @@ void compare_mother(void)
     plain_mother_setup(&s, bank8, banka);
     typical_mother_track(&s);
     mother_started t = start_both(&s);
+    compare("check", "Mother, typical", check_library, check_reference, &t, 0);
     compare("start", "Mother, typical", start_library, start_reference, &t, 0);
     compare("frames", "Mother, typical", frames_library, frames_reference, &t, 1.0);
     plain_mother_setup(&s, bank8, banka);
     many_commands(&s);
     t = start_both(&s);
     compare("frames", "Mother, 127 C0 FF", frames_library, frames_reference, &t, 1.0);
+    plain_mother_setup(&s, bank8, banka);
+    many_blocks(&s);
+    t = start_both(&s);
+    compare("check", "Mother, 256 blocks", check_library, check_reference, &t, 0);
 }

@@ -6,8 +6,8 @@
    bytes. Every call answers every input, damaged banks and records too, and is proved to do what is said here; it
    never crashes, never runs forever, and never reads or writes outside of what was lent.
 
-   What comes first is for Metroid's format. The calls that play Mother's, the later engine's, stand at the end, under
-   hem_mother_, with two banks, a record and an answer of their own.
+   What comes first is for Metroid's format. The calls for Mother's, the later engine's, stand at the end, under
+   hem_mother_, with two banks, a verdict, a record and an answer of their own.
 
    Link with target/staticlib/libhemgosling.a (x86-64 Linux). A complete program stands in README.md. */
 #ifndef HEMGOSLING_H
@@ -30,7 +30,8 @@ extern "C" {
      words calls). Any number of calls with records and buffers of their own may run at the same time on one bank.
    - For a verdict of hem_check and the frames left to hold of playing: bank bytes and all arguments from bank to
      default2 are the same in the check, in hem_start and in every hem_frame, and only hem_start and hem_frame write the
-     record.
+     record. So for a pass of hem_mother_check: banks and arguments from bank8 to track are the same in the check, in
+     hem_mother_start and in every hem_mother_frame, and only these two write the record.
 
    Nothing else is asked. Every value of a size_t or uint32_t argument is tested, and none is cut to a smaller one. But
    default1 and default2 are bytes: C itself cuts a larger number to its low 8 bits, and no call can see that. */
@@ -102,7 +103,8 @@ typedef enum {
     HEM_NO_ROOM = 18,            /* the words calls: the buffer is too small, or more than 256 bytes to write */
     HEM_ODD_TRANSPOSE = 19,      /* Mother: a transpose byte of odd amount, in the header or in a command */
     HEM_BAD_PLAYLIST = 20,       /* Mother: a playlist's word can't be followed */
-    HEM_TOO_MANY_COMMANDS = 21   /* Mother: a channel would read a 100,001st command in one frame */
+    HEM_TOO_MANY_COMMANDS = 21,  /* Mother: a channel would read a 100,001st command in one frame */
+    HEM_NO_NOTE = 22             /* hem_mother_check: a block without a note or rest */
 } hem_refusal;
 
 /* The player's record
@@ -255,8 +257,8 @@ uint32_t hem_write_words(uint32_t noise, const uint16_t *words, size_t words_len
 
    Two banks are lent, of 8,192 bytes each, for the addresses 0x8000 to 0x9fff and 0xa000 to 0xbfff: of Mother itself
    the banks 0x1c and 0x1d, where bank b of an iNES file starts at its byte 16 + 8192 * b. Tables, headers, playlists
-   and envelopes may stand across 0x9fff and 0xa000; a block ends where its bank ends, or before. Both calls take the
-   same arguments, in this order:
+   and envelopes may stand across 0x9fff and 0xa000; a block ends where its bank ends, or before. All three calls take
+   the same arguments, in this order:
 
      bank8, bank8_len     the bytes of 0x8000 to 0x9fff; only read
      banka, banka_len     the bytes of 0xa000 to 0xbfff; only read
@@ -321,6 +323,8 @@ uint32_t hem_write_words(uint32_t noise, const uint16_t *words, size_t words_len
      20   a playlist's word or the address in it is outside the banks, a goto leads to a goto, or a 257th block is named
           without a goto in between
      21   a channel would read its 100,001st command in this frame, whatever that is
+   Of a block, by hem_mother_check alone:
+     22   it ends without a note or rest
    A refusal while reading is told with its channel and an offset in the block: of 11 that of the key's byte, of 15 that
    of the byte that is needed, of all others that of the command's first byte; at the playlist it is 0. */
 
@@ -394,6 +398,39 @@ _Static_assert(sizeof(hem_mother_channel) == 16 && sizeof(hem_mother_player) == 
                                    named alone: the period is the key's, unchanged */
 #define HEM_MOTHER_PART_DMC 5   /* noise, also of a rest: DMC preset 1 or 2, or 0 for none */
 #define HEM_MOTHER_ANSWER_PART(channel) (HEM_MOTHER_ANSWER_PARTS + HEM_MOTHER_PART_WORDS * (channel))
+
+/* The verdict of a fault: HEM_FAULT_CHANNEL, HEM_FAULT_OFFSET and HEM_FAULT_ADDRESS stand where hem_check has them, and
+   instead of the frame */
+#define HEM_MOTHER_FAULT_PLACE 2 /* the place in the channel's playlist */
+
+/* Judges a track without playing it.
+
+   Returns 0 if nothing in the track can be refused, and verdict stays as it is: then hem_mother_start and every
+   hem_mother_frame after it return 0, however many frames you ask for. Else returns the number of the first fault:
+
+     1 to 4, 8, 9, 19         of the arguments and the header: verdict stays as it is
+     20                       a playlist can't be followed
+     19, 22, 6, 7, 10 to 15   of a block that a used channel's playlist names, read straight through to its 00, no loops
+                              run. 14 is a note or rest before the channel's first set-length command in playing order;
+                              11, 12 and 13 are a key or length that fails under some transpose or window set anywhere
+                              in the track: by its header, or by a command in a block that any used channel names
+
+   and writes to verdict the channel, the offset in the block (as told above; of 22 that of the 00, of 20 it is 0), the
+   place and, of 10 to 15, the byte's address, else 0. A place is the number of block words and gotos before the word in
+   playing order; what a goto leads to is looked at once. The first fault is the one in the first channel, there at the
+   first place, there at the lowest offset, and at one offset the first of 19, 20, 22, 6, 7, 10 to 15. The header's 19
+   and a command's are told apart by the verdict: the header's leaves it as it was.
+
+   What passes is never refused. But what is refused here may still play: an end may come before the fault, or the
+   transpose that a key fails under may be gone when it is met.
+
+   The cost grows with the words of the playlists and the bytes of the blocks that they name, not with loops or frames.
+   The call takes some 17 KB of stack. The returned number never depends on verdict_len. As many of the values as fit
+   are written; the rest of the buffer stays. HEM_VERDICT_WORDS words are always enough. */
+uint32_t hem_mother_check(const uint8_t *bank8, size_t bank8_len, const uint8_t *banka, size_t banka_len,
+                          uint32_t header_offsets, uint32_t header_block, uint32_t note_lengths, uint32_t key_periods,
+                          uint32_t noise_presets, uint32_t envelope_addresses, uint32_t track_count, uint32_t track,
+                          uint32_t *verdict, size_t verdict_len);
 
 /* Makes a fresh record, whatever it held: transpose and window are the header's, all else is 0. Returns 0 or the
    refusal, 1 to 4, 8, 9 or 19; all of the record is 0 then. */

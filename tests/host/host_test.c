@@ -6,10 +6,10 @@
 #include <stdlib.h>
 #include <string.h>
 
-enum { DEFAULT_ROUNDS = 90000, MOST_MESSAGES = 20, LAST_NUMBER = HEM_TOO_MANY_COMMANDS };
+enum { DEFAULT_ROUNDS = 90000, MOST_MESSAGES = 20, LAST_NUMBER = HEM_NO_NOTE };
 
 #ifdef WITHOUT_WORDS
-static const library_call last_call = MOTHER_FRAME;
+static const library_call last_call = MOTHER_CHECK;
 #else
 static const library_call last_call = WRITE_WORDS;
 #endif
@@ -28,6 +28,9 @@ static const struct { const char *name; uint32_t numbers; } calls[CALLS] = {
     [MOTHER_FRAME] = { "mother frame", FROM_TO(HEM_OK, HEM_BAD_HEADER)
                                            | FROM_TO(HEM_BAD_ENVELOPE_NUMBER, HEM_BAD_RECORD)
                                            | FROM_TO(HEM_ODD_TRANSPOSE, HEM_TOO_MANY_COMMANDS) },
+    [MOTHER_CHECK] = { "mother check", FROM_TO(HEM_OK, HEM_BAD_HEADER)
+                                           | FROM_TO(HEM_BAD_ENVELOPE_NUMBER, HEM_PAST_DATA)
+                                           | FROM_TO(HEM_ODD_TRANSPOSE, HEM_BAD_PLAYLIST) | ONE(HEM_NO_NOTE) },
     [READ_WORDS] = { "read words", ONE(HEM_OK) | FROM_TO(HEM_NO_COMMAND, HEM_NO_SUCH_KEY) | ONE(HEM_PAST_DATA)
                                        | ONE(HEM_NO_ROOM) },
     [WRITE_WORDS] = { "write words", ONE(HEM_OK) | FROM_TO(HEM_BAD_WORD, HEM_NO_ROOM) },
@@ -147,6 +150,7 @@ int main(int argc, char **argv)
     test_words(rounds);
 #endif
     test_mother(rounds);
+    test_mother_check(rounds);
     for (library_call call = CHECK; call <= last_call; call++)
         report_numbers(call);
     printf("host test: %lu rounds, seed %lu: %lu expectations, %lu failed\n", rounds, seed, expected, failed);

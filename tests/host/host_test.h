@@ -13,7 +13,17 @@ void begin_part(const char *name, unsigned long least);
 void begin_round(unsigned long round);
 
 /* Counts a number that one of the library's calls returned. Each that it can return must come, and no other. */
-typedef enum { CHECK, START, FRAME, MOTHER_START, MOTHER_FRAME, READ_WORDS, WRITE_WORDS, CALLS } library_call;
+typedef enum {
+    CHECK,
+    START,
+    FRAME,
+    MOTHER_START,
+    MOTHER_FRAME,
+    MOTHER_CHECK,
+    READ_WORDS,
+    WRITE_WORDS,
+    CALLS
+} library_call;
 void count_number(library_call call, uint32_t number);
 
 /* Lent buffers are longer than what is lent; what is not to be written keeps its bytes. */
@@ -31,5 +41,6 @@ void test_check(unsigned long rounds);
 void test_player(unsigned long rounds);
 void test_words(unsigned long rounds);
 void test_mother(unsigned long rounds);
+void test_mother_check(unsigned long rounds);
 
 #endif

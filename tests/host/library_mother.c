@@ -28,3 +28,9 @@ uint32_t mother_frame(mother_player *player, const mother_banks *banks, const mo
     memcpy(player, &stepped, sizeof stepped);
     return refusal;
 }
+
+uint32_t mother_check(const mother_banks *banks, const mother_places *places, uint32_t number, uint32_t *verdict,
+                      size_t verdict_len)
+{
+    return hem_mother_check(TRACK(banks, places), number, verdict, verdict_len);
+}

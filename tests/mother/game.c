@@ -55,6 +55,12 @@ void game_word(game *g, uint32_t address, uint32_t word)
     *game_at(g, address + 1) = (uint8_t)(word >> 8);
 }
 
+uint32_t hex_size(const char *hex)
+{
+    uint8_t bytes[MOTHER_BLOCK_LIMIT];
+    return (uint32_t)hex_bytes(hex, bytes);
+}
+
 void game_hex(game *g, uint32_t address, const char *hex)
 {
     uint8_t bytes[MOTHER_BLOCK_LIMIT];
@@ -105,7 +111,7 @@ static void put_tables(game *g)
 
 game *new_game(void)
 {
-    static const mother_places low = { 0x903E, HEADER, 0x8FD6, 0x8F4C, 0x8928, 0x8DED, 24 };
+    static const mother_places low = MOTHER_LOW_PLACES;
     game *g = calloc(1, sizeof *g);
     if (g == NULL)
         abort();
@@ -152,6 +158,33 @@ void play_block(game *g, int channel, const char *hex)
     PLAYLIST(g, channel, (uint16_t)BLOCK_OF(channel), END_WORD);
 }
 
+uint32_t put_words(game *g, uint32_t address, uint32_t count, uint32_t block)
+{
+    for (uint32_t i = 0; i < count; i++)
+        game_word(g, address + 2 * i, block);
+    return address + 2 * count;
+}
+
+uint32_t put_goto(game *g, uint32_t address, uint32_t to)
+{
+    game_word(g, address, GOTO_WORD);
+    game_word(g, address + 2, to);
+    return address + 4;
+}
+
+void set_envelope(game *g, uint32_t number, uint32_t address)
+{
+    game_word(g, g->places.envelope_addresses + 2 * (number - 1), address);
+}
+
+void put_endless_envelope(game *g, uint32_t number)
+{
+    set_envelope(g, number, LAST_OF_ENDLESS - 63);
+    for (uint32_t at = LAST_OF_ENDLESS - 63; at <= LAST_OF_ENDLESS; at++)
+        *game_at(g, at) = 0x12;
+    *game_at(g, LAST_OF_ENDLESS + 1) = 0xFF;
+}
+
 static mother_banks banks_of(const game *g)
 {
     return (mother_banks){ g->bank8, g->bank8_len, g->banka, g->banka_len };
@@ -167,6 +200,12 @@ uint32_t step_game(game *g, mother_player *player, uint32_t *answer)
 {
     mother_banks banks = banks_of(g);
     return mother_frame(player, &banks, &g->places, g->track, answer);
+}
+
+uint32_t check_game(game *g, uint32_t *verdict, size_t verdict_len)
+{
+    mother_banks banks = banks_of(g);
+    return mother_check(&banks, &g->places, g->track, verdict, verdict_len);
 }
 
 static int same_part(const mother_channel *a, const mother_channel *b)

@@ -16,6 +16,9 @@ typedef struct {
 /* Where the tests put a channel's playlist and block. */
 #define LIST_OF(channel) (0xA400u + 0x40u * (unsigned)(channel))
 #define BLOCK_OF(channel) (0x9400u + 0x200u * (unsigned)(channel))
+/* Room for playlists of some hundreds of words. */
+#define LONG_LIST 0xA800u
+#define OTHER_LIST 0xB000u
 #define HEADER 0x906Fu
 #define GOTO_WORD 0xFFFFu
 #define END_WORD 0x0000u
@@ -30,6 +33,7 @@ game *new_game(void);
 void free_game(game *g);
 uint8_t *game_at(game *g, uint32_t address);
 void game_word(game *g, uint32_t address, uint32_t word);
+uint32_t hex_size(const char *hex);
 void game_hex(game *g, uint32_t address, const char *hex);
 typedef struct { uint32_t address; const char *hex; } piece;
 void put_pieces(game *g, const piece *pieces, size_t count);
@@ -44,9 +48,19 @@ void put_playlist(game *g, int channel, const uint16_t *words, size_t count);
                  sizeof((const uint16_t[]){ __VA_ARGS__ }) / sizeof(uint16_t))
 /* The channel plays this block and ends the track then. */
 void play_block(game *g, int channel, const char *hex);
+/* So many words that name the block. Returns the address after them. */
+uint32_t put_words(game *g, uint32_t address, uint32_t count, uint32_t block);
+/* The same of a goto. */
+uint32_t put_goto(game *g, uint32_t address, uint32_t to);
+/* Of a volume envelope, 1 to 27. */
+void set_envelope(game *g, uint32_t number, uint32_t address);
+/* Its 64 bytes have no end, and stand across the border of the banks up to this one; the byte behind them is one. */
+#define LAST_OF_ENDLESS 0xA01Fu
+void put_endless_envelope(game *g, uint32_t number);
 
 uint32_t start_game(game *g, mother_player *player);
 uint32_t step_game(game *g, mother_player *player, uint32_t *answer);
+uint32_t check_game(game *g, uint32_t *verdict, size_t verdict_len);
 
 int same_player(const mother_player *a, const mother_player *b);
 /* A channel's six words. */
@@ -68,5 +82,6 @@ void test_headers(void);
 void test_commands(void);
 void test_playlists(void);
 void test_records(void);
+void test_check(void);
 
 #endif

@@ -18,7 +18,7 @@
 #define MOTHER_MOST_BLOCK_WORDS 256u /* in a row */
 #define MOTHER_MOST_COMMANDS 100000u /* of a channel in a frame */
 
-enum { MOTHER_ODD_TRANSPOSE = 19, MOTHER_BAD_PLAYLIST = 20, MOTHER_TOO_MANY_COMMANDS = 21 };
+enum { MOTHER_ODD_TRANSPOSE = 19, MOTHER_BAD_PLAYLIST = 20, MOTHER_TOO_MANY_COMMANDS = 21, MOTHER_NO_NOTE = 22 };
 
 typedef struct {
     const uint8_t *bank8;
@@ -31,6 +31,8 @@ typedef struct {
     uint32_t header_offsets, header_block, note_lengths, key_periods, noise_presets, envelope_addresses;
     uint32_t track_count;
 } mother_places;
+#define MOTHER_LOW_PLACES { 0x903E, 0x906F, 0x8FD6, 0x8F4C, 0x8928, 0x8DED, 24 }
+#define MOTHER_HIGH_PLACES { 0x9056, 0x915F, 0x8FD6, 0x8F4C, 0x8928, 0x8DED, 25 }
 
 /* An opened track: what start and frame read from. */
 typedef struct {
@@ -110,5 +112,14 @@ uint32_t mother_read(const mother_track *track, int channel, mother_player *play
 uint32_t mother_start(mother_player *player, const mother_banks *banks, const mother_places *places, uint32_t number);
 uint32_t mother_frame(mother_player *player, const mother_banks *banks, const mother_places *places, uint32_t number,
                       uint32_t answer[MOTHER_ANSWER_WORDS]);
+
+/* check.c */
+enum { MOTHER_VERDICT_CHANNEL, MOTHER_VERDICT_OFFSET, MOTHER_VERDICT_PLACE, MOTHER_VERDICT_ADDRESS,
+       MOTHER_VERDICT_WORDS };
+
+/* 0 for a pass, or the number. Of a fault the verdict's words are written as far as they fit; nothing of a pass or of
+   what mother_open refuses. */
+uint32_t mother_check(const mother_banks *banks, const mother_places *places, uint32_t number, uint32_t *verdict,
+                      size_t verdict_len);
 
 #endif

@@ -2,9 +2,10 @@
 #include "game.h"
 
 /* Fewer would say that some of the tests did not run. */
-#define LEAST_CHECKS 40000u
+#define LEAST_CHECKS 50000u
 
-static void (*const tests[])(void) = { test_examples, test_headers, test_commands, test_playlists, test_records };
+static void (*const tests[])(void) = { test_examples,  test_headers, test_commands,
+                                       test_playlists, test_records, test_check };
 
 int main(void)
 {

@@ -76,10 +76,8 @@ static void test_samples_of_commands(void)
     for (size_t i = 0; i < sizeof samples / sizeof samples[0]; i++)
         expect_sample(&samples[i], BLOCK_OF(samples[i].channel));
     for (size_t i = 0; i < sizeof last_samples / sizeof last_samples[0]; i++) {
-        uint8_t bytes[MOTHER_BLOCK_LIMIT];
-        uint32_t size = (uint32_t)hex_bytes(last_samples[i].hex, bytes);
-        expect_sample(&last_samples[i], MOTHER_BANK_A - size);
-        expect_sample(&last_samples[i], REF_BANK_END - size);
+        expect_sample(&last_samples[i], MOTHER_BANK_A - hex_size(last_samples[i].hex));
+        expect_sample(&last_samples[i], REF_BANK_END - hex_size(last_samples[i].hex));
     }
 }
 
@@ -115,11 +113,6 @@ static void test_no_envelope(void)
     free_game(g);
 }
 
-static void set_envelope(game *g, uint32_t number, uint32_t address)
-{
-    game_word(g, g->places.envelope_addresses + 2 * (number - 1), address);
-}
-
 static void test_envelope_faults(void)
 {
     static const uint16_t outside[] = { 0x0000, 0x7FFF, 0xC000, 0xFFFF };
@@ -129,12 +122,9 @@ static void test_envelope_faults(void)
         set_envelope(g, 3, outside[i]);
         expect_refused(g, 0, REF_BAD_ENVELOPE, 1, 2, 0, 2);
     }
-    set_envelope(g, 3, 0x9FE0);
-    for (uint32_t at = 0x9FE0; at < 0xA020; at++)
-        *game_at(g, at) = 0x12;
-    *game_at(g, 0xA020) = 0xFF;
+    put_endless_envelope(g, 3);
     expect_refused(g, 0, REF_BAD_ENVELOPE, 1, 2, 0, 2);
-    *game_at(g, 0xA01F) = 0xF0;
+    *game_at(g, LAST_OF_ENDLESS) = 0xF0;
     expect_ended(g, 6, 1, 2);
     set_envelope(g, 3, 0xBFFE);
     expect_refused(g, 0, REF_BAD_ENVELOPE, 1, 2, 0, 2);

@@ -3,23 +3,6 @@
 
 #define IDLE_BLOCK 0x9A00u
 #define LAST_BLOCK 0x9C00u
-#define LONG_LIST 0xA800u
-#define OTHER_LIST 0xB000u
-
-/* So many words that name the block. Returns the address after them. */
-static uint32_t put_words(game *g, uint32_t address, uint32_t count, uint32_t block)
-{
-    for (uint32_t i = 0; i < count; i++)
-        game_word(g, address + 2 * i, block);
-    return address + 2 * count;
-}
-
-static uint32_t put_goto(game *g, uint32_t address, uint32_t to)
-{
-    game_word(g, address, GOTO_WORD);
-    game_word(g, address + 2, to);
-    return address + 4;
-}
 
 /* A playlist's words are refused after so many commands. */
 static void refused(game *g, uint32_t count)

@@ -85,6 +85,10 @@ bad-playlist = 20
 abbrev pub too-many-commands : ℕ
 too-many-commands = 21
 
+-- document 02, No. 3: a block without note or rest
+abbrev pub no-note : ℕ
+no-note = 22
+
 -- Below: only private contracts and laws use these.
 
 -- 1 to 9: a bank, its places, a track number or a header is refused

@@ -41,3 +41,5 @@ pub const ODD_TRANSPOSE: u32 = 19;
 pub const BAD_PLAYLIST: u32 = 20;
 
 pub const TOO_MANY_COMMANDS: u32 = 21;
+
+pub const NO_NOTE: u32 = 22;

@@ -5,3 +5,4 @@ pub mod Play
 pub mod Words
 pub mod MotherPlaces
 pub mod MotherPlay
+pub mod MotherJudge

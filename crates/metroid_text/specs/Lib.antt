@@ -3,3 +3,4 @@ pub mod Hex
 pub mod Line
 pub mod Verdict
 pub mod Answer
+pub mod Mother

@@ -3,4 +3,5 @@ pub mod answer;
 mod decimal;
 mod hex;
 pub mod line;
+pub mod mother;
 pub mod verdict;

@@ -9,7 +9,7 @@ ghost use Rattle.metroid_text.specs.Line.{Spells, Puts};
 ghost use Rattle.metroid_text.specs.Verdict.{sentence, verdictWords, verdictText, verdictLine, sentence-most, words-most, text-most};
 
 // A word and numbers.
-fn put_sentence(word: &[u8], values: &[u64], out: &mut [u8], at: usize) -> usize
+pub(crate) fn put_sentence(word: &[u8], values: &[u64], out: &mut [u8], at: usize) -> usize
     requires { ⌜ at + sentence-most (now word) (length (now values)) < 2 ^ 64 ⌝ }
     ensures { λ r. ⌜ Puts (sentence-most (now (word .entry)) (length (now (values .entry)))) (sentence (now (word .entry)) (now (values .entry))) (now (out .entry)) at r (now (out .exit)) ⌝ }
 {

@@ -80,7 +80,7 @@ fn length_at(bank8: &[u8], banka: &[u8], table: u32, window: u8, l: u8) -> u8
 }
 
 // 12 or 13 of BL, or 0.
-fn length_fault(bank8: &[u8], banka: &[u8], table: u32, window: u8, l: u8) -> u32
+pub fn length_fault(bank8: &[u8], banka: &[u8], table: u32, window: u8, l: u8) -> u32
     ensures { λ r. ⌜ r ≡ lengthFault (banks (now (bank8 .entry)) (now (banka .entry))) table window l ⌝ }
 {
     if bank::LENGTHS_SIZE <= window as usize + l as usize {
@@ -93,7 +93,7 @@ fn length_fault(bank8: &[u8], banka: &[u8], table: u32, window: u8, l: u8) -> u3
 }
 
 // 6 or 7 of 9f, or 0: only on a square is x of pppx xxxx an envelope.
-fn timbre_fault(bank8: &[u8], banka: &[u8], table: u32, kind: Kind, x: u8) -> u32
+pub fn timbre_fault(bank8: &[u8], banka: &[u8], table: u32, kind: Kind, x: u8) -> u32
     ensures { λ r. ⌜ r ≡ timbreFault (banks (now (bank8 .entry)) (now (banka .entry))) table kind x ⌝ }
 {
     match kind {

@@ -136,7 +136,7 @@ fn noise_rule(b: u8) -> Rule
 }
 
 // The first rule that fits a byte where a command stands.
-pub(crate) fn rule_of(kind: Kind, b: u8) -> Rule
+pub fn rule_of(kind: Kind, b: u8) -> Rule
     ensures { λ r. ⌜ r ≡ ruleOf kind b ⌝ }
 {
     if b == 0x00 {

@@ -22,7 +22,8 @@ pub struct Reading {
     pub finish: Finish,
 }
 
-fn is_end(command: Command) -> bool
+// Whether a command ends its block.
+pub fn is_end(command: Command) -> bool
     ensures { λ r. ⌜ r ≡ isEnd command ⌝ }
 {
     match command {

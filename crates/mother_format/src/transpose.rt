@@ -37,7 +37,7 @@ pub fn is_odd(b: u8) -> bool
 }
 
 // A key byte under a transpose byte.
-pub(crate) fn transposed(b: u8, transpose: u8) -> Sounding
+pub fn transposed(b: u8, transpose: u8) -> Sounding
     ensures { λ r. ⌜ r ≡ transposedOf b transpose ⌝ }
 {
     if b == REST {

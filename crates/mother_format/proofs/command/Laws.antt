@@ -1,5 +1,6 @@
 -- Where a command ends, and where and how it is refused.
-use Prim.Native.Nat.{ℕ, _+_, _/_, _≤_, _<_, max}
+use Prim.Native.Nat.{ℕ, _+_, _/_, _%_, _≤_, _<_, max}
+use mathlib.Core.Bool.{true}
 use mathlib.Core.List.{List}
 use mathlib.Core.Path.{_≡_, refl, subst}
 use native.Mathlib.Omega.{arith}
@@ -17,45 +18,42 @@ use Rattle.mother_format.specs.declared.command.Command.{Command}
 use Rattle.mother_format.specs.declared.command.Decoded.{Decoded}
 use Rattle.mother_format.specs.declared.command.Decoded.the-variants.{Found, Refused}
 
--- n of a begin has six bits, and a byte that is no command is 10 or 11
-abbrev Sorted : Rule → Type 0
-Sorted Rule.End = Unit {0}
-Sorted Rule.Transpose = Unit {0}
-Sorted Rule.Window = Unit {0}
-Sorted Rule.EndLoop = Unit {0}
-Sorted (Rule.Length l) = Unit {0}
-Sorted (Rule.BeginLoop n) = n < 64
-Sorted Rule.Timbre = Unit {0}
-Sorted Rule.Note = Unit {0}
-Sorted (Rule.Invalid number) = (invalid-command ≤ number) × (number ≤ invalid-note)
+-- L of BL is in its byte, n of a begin has six bits, a note's byte is one of the channel, and a byte that is no command is 10 or 11
+abbrev pub Sorted : Kind → ℕ → Rule → Type 0
+Sorted kind b Rule.End = Unit {0}
+Sorted kind b Rule.Transpose = Unit {0}
+Sorted kind b Rule.Window = Unit {0}
+Sorted kind b Rule.EndLoop = Unit {0}
+Sorted kind b (Rule.Length l) = l ≡ b % 16
+Sorted kind b (Rule.BeginLoop n) = n < 64
+Sorted kind b Rule.Timbre = Unit {0}
+Sorted kind b Rule.Note = isNote kind b ≡ true
+Sorted kind b (Rule.Invalid number) = (invalid-command ≤ number) × (number ≤ invalid-note)
 
-melodic-sorted : (b : ℕ) → Sorted (melodicRule b)
+melodic-sorted : (kind : Kind) (b : ℕ) → (isKey b ≡ true → isNote kind b ≡ true) → Sorted kind b (melodicRule b)
 unfolding melodicRule
-melodic-sorted b =
-    by-test Sorted (eqb b 0x9f) (λ _. tt)
-    (λ _. by-test Sorted (isKey b) (λ _. tt)
-    (λ _. by-test Sorted (ltb b 0x80) (λ _. (omega arith, omega arith)) (λ _. (omega arith, omega arith))))
+melodic-sorted kind b is =
+    by-test (Sorted kind b) (eqb b 0x9f) (λ _. tt)
+    (λ _. by-test (Sorted kind b) (isKey b) is
+    (λ _. by-test (Sorted kind b) (ltb b 0x80) (λ _. (omega arith, omega arith)) (λ _. (omega arith, omega arith))))
 
-noise-sorted : (b : ℕ) → Sorted (noiseRule b)
+own-sorted : (kind : Kind) (b : ℕ) → Sorted kind b (ownRule kind b)
 unfolding noiseRule
-noise-sorted b =
-    by-test Sorted (eqb b 0x9f) (λ _. (omega arith, omega arith))
-    (λ _. by-test Sorted (isPreset b) (λ _. tt) (λ _. (omega arith, omega arith)))
+own-sorted Square b = melodic-sorted Square b λ t. t
+own-sorted Triangle b = melodic-sorted Triangle b λ t. t
+own-sorted Noise b =
+    by-test (Sorted Noise b) (eqb b 0x9f) (λ _. (omega arith, omega arith))
+    (λ _. by-test (Sorted Noise b) (isPreset b) (λ t. t) (λ _. (omega arith, omega arith)))
 
-own-sorted : (kind : Kind) (b : ℕ) → Sorted (ownRule kind b)
-own-sorted Square b = melodic-sorted b
-own-sorted Triangle b = melodic-sorted b
-own-sorted Noise b = noise-sorted b
-
-sorted : (kind : Kind) (b : ℕ) → Sorted (ruleOf kind b)
+pub sorted : (kind : Kind) (b : ℕ) → Sorted kind b (ruleOf kind b)
 unfolding ruleOf
 sorted kind b =
-    by-test Sorted (eqb b 0x00) (λ _. tt)
-    (λ _. by-test Sorted (eqb b 0x9c) (λ _. tt)
-    (λ _. by-test Sorted (eqb b 0x9e) (λ _. tt)
-    (λ _. by-test Sorted (eqb b 0xff) (λ _. tt)
-    (λ _. by-test Sorted (eqb (b / 16) 0x0b) (λ _. tt)
-    (λ _. by-test Sorted (eqb (b / 64) 3) (λ _. omega arith)
+    by-test (Sorted kind b) (eqb b 0x00) (λ _. tt)
+    (λ _. by-test (Sorted kind b) (eqb b 0x9c) (λ _. tt)
+    (λ _. by-test (Sorted kind b) (eqb b 0x9e) (λ _. tt)
+    (λ _. by-test (Sorted kind b) (eqb b 0xff) (λ _. tt)
+    (λ _. by-test (Sorted kind b) (eqb (b / 16) 0x0b) (λ _. refl)
+    (λ _. by-test (Sorted kind b) (eqb (b / 64) 3) (λ _. omega arith)
     (λ _. own-sorted kind b))))))
 
 abbrev pub Small : Command → Type 0
@@ -83,7 +81,7 @@ module _ (kind : Kind) (bytes : List ℕ) (at : ℕ) where
   needs-byte here go h k =
       by-test (Stands bytes at) (leb (length bytes) here) (λ n. ((omega arith, omega arith, omega arith), λ _. leb-true _ _ n)) λ n. k (leb-false _ _ n)
 
-  rule-stands : at < length bytes → (rule : Rule) → Sorted rule → Stands bytes at (commandBy kind bytes at rule)
+  rule-stands : at < length bytes → (rule : Rule) → Sorted kind (getD bytes at 0) rule → Stands bytes at (commandBy kind bytes at rule)
   unfolding noteAfter timbreAfter
   rule-stands h Rule.End s = (refl, omega arith, tt)
   rule-stands h Rule.Transpose s = needs-byte (at + 1) (λ m. Found (Command.Transpose m) (at + 1 + 1)) (omega arith) λ w. (omega arith, omega arith, tt)

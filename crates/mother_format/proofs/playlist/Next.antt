@@ -20,10 +20,10 @@ list-fits list r e t =
     let (first, last) = inside list 2 (sym e ∙ not-false r t) in
     record { fits = omega arith }
 
--- a block word names an address in the banks, and too few block words came before it in its row
+-- a goto and a block word name an address in the banks, and too few block words came before the latter in its row
 abbrev pub EntryWithin : ℕ → Entry → Type 0
 EntryWithin row Entry.End = Unit {0}
-EntryWithin row (Entry.Goto target) = Unit {0}
+EntryWithin row (Entry.Goto target) = within target 1 ≡ true
 EntryWithin row (Entry.Block address next) = (row < row-limit) × (within address 1 ≡ true)
 EntryWithin row Entry.Refused = Unit {0}
 
@@ -34,7 +34,7 @@ entry-within bank list row by-goto =
     (λ _. by-test (EntryWithin row) (eqb (word / 256) 0x00) (λ _. tt) λ _.
     by-test (EntryWithin row) (eqb (word / 256) 0xff)
     (λ _. by-test (EntryWithin row) by-goto (λ _. tt) λ _.
-    by-test (EntryWithin row) (within (list + 2) 2) (λ _. by-test (EntryWithin row) (within (wordAt bank (offsetOf (list + 2))) 1) (λ _. tt) λ _. tt) λ _. tt)
+    by-test (EntryWithin row) (within (list + 2) 2) (λ _. by-test (EntryWithin row) (within (wordAt bank (offsetOf (list + 2))) 1) (λ w. w) λ _. tt) λ _. tt)
     λ _. by-test (EntryWithin row) (within word 1) (λ w. by-test (EntryWithin row) (ltb row row-limit) (λ t. (ltb-true _ _ t, w)) λ _. tt) λ _. tt)
     λ _. tt
   where

@@ -17,7 +17,7 @@ use Rattle.mother_format.specs.declared.command.Decoded.{Decoded}
 use Rattle.mother_format.specs.declared.straight.Finish.{Finish}
 use Rattle.mother_format.specs.declared.straight.Finish.the-variants.{End as Ended, Refused as Faulty}
 
-bytes-some : (c : Command) → 0 < length (bytesOf c)
+pub bytes-some : (c : Command) → 0 < length (bytesOf c)
 bytes-some Command.End = omega arith
 bytes-some (Command.Transpose m) = omega arith
 bytes-some (Command.Window t) = omega arith

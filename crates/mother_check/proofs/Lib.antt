@@ -1,0 +1,4 @@
+pub mod Member
+pub mod clean
+pub mod first
+pub mod run

@@ -1,0 +1,6 @@
+// The check of a track of the later engine, before it is played.
+pub mod faults;
+pub mod reading;
+pub mod settings;
+pub mod verdict;
+pub mod walk;
