@@ -1,7 +1,7 @@
 use borrow.Author.Needs.{needs}
-use Rattle.mother_check.proofs.faults.Tests.{past-tested, early-tested, command-tested, offset-small, refusal-fits}
-use Rattle.mother_check.proofs.faults.fault_at.Statement.{statement}
-use Rattle.mother_check.proofs.faults.fault_at.Tie as tie
+use Rattle.mother_check.proofs.command_faults.Tests.{past-tested, early-tested, command-tested, offset-small, refusal-fits}
+use Rattle.mother_check.proofs.command_faults.fault_at.Statement.{statement}
+use Rattle.mother_check.proofs.command_faults.fault_at.Tie as tie
 
 pub fault-at-spec : {M : Type 1} → statement M
 fault-at-spec =

@@ -1,7 +1,7 @@
 use borrow.Author.Needs.{needs}
 use Rattle.mother_check.specs.First.{earlyAt}
-use Rattle.mother_check.proofs.faults.early_at.Statement.{statement}
-use Rattle.mother_check.proofs.faults.early_at.Tie as tie
+use Rattle.mother_check.proofs.command_faults.early_at.Statement.{statement}
+use Rattle.mother_check.proofs.command_faults.early_at.Tie as tie
 
 pub early-at-spec : {M : Type 1} → statement M
 unfolding earlyAt

@@ -1,7 +1,7 @@
 use borrow.Author.Needs.{needs}
 use Rattle.mother_check.specs.First.{windowFor}
-use Rattle.mother_check.proofs.faults.window_for.Statement.{statement}
-use Rattle.mother_check.proofs.faults.window_for.Tie as tie
+use Rattle.mother_check.proofs.command_faults.window_for.Statement.{statement}
+use Rattle.mother_check.proofs.command_faults.window_for.Tie as tie
 
 pub window-for-spec : {M : Type 1} → statement M
 unfolding windowFor

@@ -1,6 +1,6 @@
 use borrow.Author.Needs.{needs}
-use Rattle.mother_check.proofs.faults.is_unsounded.Statement.{statement}
-use Rattle.mother_check.proofs.faults.is_unsounded.Tie as tie
+use Rattle.mother_check.proofs.command_faults.is_unsounded.Statement.{statement}
+use Rattle.mother_check.proofs.command_faults.is_unsounded.Tie as tie
 
 pub is-unsounded-spec : {M : Type 1} → statement M
 is-unsounded-spec =

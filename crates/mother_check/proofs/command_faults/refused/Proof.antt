@@ -1,8 +1,8 @@
 use mathlib.Core.Path.{_∙_}
 use borrow.Author.Needs.{needs}
 use borrow.Author.Tests.{le-leb, lt-leb}
-use Rattle.mother_check.proofs.faults.refused.Statement.{statement}
-use Rattle.mother_check.proofs.faults.refused.Tie as tie
+use Rattle.mother_check.proofs.command_faults.refused.Statement.{statement}
+use Rattle.mother_check.proofs.command_faults.refused.Tie as tie
 
 pub refused-spec : {M : Type 1} → statement M
 refused-spec =
