@@ -45,7 +45,8 @@ extern "C" {
      header_offsets       address of a byte a track: where in the header block the track's header stands
      header_block         address that these bytes are added to
      note_lengths         address of 40 bytes: lengths in frames
-     key_periods          address of 64 words, high byte first: periods of the keys
+     key_periods          address of 64 words, high byte first: periods of the keys; a key whose word has low byte 0 is
+                          a rest
      noise_presets        address of 13 bytes: from offset 1 the rest and three presets, three bytes each
      envelope_addresses   address of 5 words, low byte first: where the envelopes stand
      track_count          how many tracks the bank has, 1 to 255
@@ -165,7 +166,8 @@ enum { HEM_EVENTS = 0, HEM_END = 1, HEM_STOPPED = 2, HEM_REFUSED = 3 };
 #define HEM_PART_KEY 2     /* squares and triangle, a note: key 0 to 63 */
 #define HEM_PART_PERIOD 3  /* squares and triangle, a note: the key's word of the period table */
 #define HEM_PART_CTRL1 4   /* squares: ctrl 1 byte for this frame; of a rest 0x10 */
-#define HEM_PART_RELEASE 4 /* triangle: a note is silenced after so many quarter-frames, or HEM_RELEASE_NEVER */
+#define HEM_PART_RELEASE 4 /* triangle: a note is silenced after so many quarter-frames, or HEM_RELEASE_NEVER; of a rest
+                              0 */
 #define HEM_PART_PRESET 2  /* noise, a note: three words, the preset's bytes for $400C, $400E and $400F */
 enum { HEM_OFF = 0, HEM_REST = 1, HEM_NOTE = 2 };
 #define HEM_RELEASE_NEVER 255
@@ -226,7 +228,8 @@ uint32_t hem_frame(hem_player *player, const uint8_t *bank, size_t bank_len, uin
      FF            end of a loop
      C0 to FE      begin of a loop, played byte - C0 times; C0: 256 times
      B0 to BF      set length, entry byte - B0 of the track's window; the next byte, its second, is what then sounds
-     02 to 7E      even bytes, square and triangle: key byte / 2; 02 is the rest; 00 is key 0 after set length alone
+     02 to 7E      even bytes, square and triangle: key byte / 2; 00 is key 0 after set length alone. Which keys are
+                   rests, the bank's period table says; the game's own rest is 02
      01 04 07 0A   noise: the rest, and the three presets
 
    noise: 0 for the data of a square or triangle, anything else for that of the noise channel. `told` takes one value,

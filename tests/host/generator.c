@@ -57,7 +57,9 @@ uint8_t *fenced_memory(void)
 
 static uint8_t random_note(int noise)
 {
-    return (uint8_t)(noise ? 1 + 3 * below(4) : 2 * (1 + below(63)));
+    if (noise)
+        return (uint8_t)(1 + 3 * below(4));
+    return (uint8_t)(2 * (one_in(16) ? 1 : 1 + below(63)));
 }
 
 uint16_t random_command(int noise)
@@ -67,7 +69,7 @@ uint16_t random_command(int noise)
         return random_note(noise);
     if (die < 620) {
         uint32_t length = 0xB0 + below(one_in(4) ? 16 : 5);
-        uint32_t note = one_in(100) ? any_byte() : one_in(20) && !noise ? 0 : random_note(noise);
+        uint32_t note = one_in(100) ? any_byte() : one_in(10) && !noise ? 0 : random_note(noise);
         return (uint16_t)(length + 256 * note);
     }
     if (die < 760)
@@ -152,6 +154,15 @@ static void choose_places(setup *s, const uint32_t slots[PLACES])
     s->track = below(p->track_count);
 }
 
+void random_periods(setup *s, int silent_keys)
+{
+    for (unsigned key = 0; key < PERIOD_KEYS; key++) {
+        uint32_t high = one_in(3) ? 0 : any_byte();
+        uint32_t low = silent_keys && one_in(3) ? 0 : 1 + below(255);
+        put_period(periods_of(s), key, 256 * high + low);
+    }
+}
+
 static void fill_tables(setup *s)
 {
     const ref_places *p = &s->places;
@@ -160,8 +171,7 @@ static void fill_tables(setup *s)
         *byte_at(s, p->header_offsets + i) = any_byte();
     for (uint32_t i = 0; i < LENGTH_BYTES; i++)
         *byte_at(s, p->note_lengths + i) = (uint8_t)(one_in(30) ? 0 : 1 + below(longer ? 255 : 6));
-    for (uint32_t i = 0; i < PERIOD_BYTES; i++)
-        *byte_at(s, p->key_periods + i) = any_byte();
+    random_periods(s, 1);
     for (uint32_t i = 0; i < PRESET_BYTES; i++)
         *byte_at(s, p->noise_presets + i) = any_byte();
 }
@@ -289,7 +299,7 @@ static void damage(setup *s)
     }
 }
 
-void random_setup(setup *s, uint8_t *memory)
+void whole_setup(setup *s, uint8_t *memory)
 {
     uint32_t slots[SLOTS];
     s->bank_len = HEM_BANK_SIZE;
@@ -300,6 +310,11 @@ void random_setup(setup *s, uint8_t *memory)
     fill_tables(s);
     fill_envelopes(s, slots[PLACES]);
     fill_header(s, slots + PLACES + 1);
+}
+
+void random_setup(setup *s, uint8_t *memory)
+{
+    whole_setup(s, memory);
     if (one_in(3))
         damage(s);
 }

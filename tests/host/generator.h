@@ -38,8 +38,13 @@ void damage_length(uint8_t **bank, size_t *bank_len, size_t right);
 
 /* Memory of LONGEST_BANK bytes: the byte behind it can't be touched. */
 uint8_t *fenced_memory(void);
-/* The bank is the last bank_len bytes of the memory. */
+/* The bank is the last bank_len bytes of the memory. Tables, headers, envelopes and data stand in slots of their own;
+   but where data has no end, its channel reads on into the next slot. */
+void whole_setup(setup *s, uint8_t *memory);
+/* The same, with one thing damaged in a third of them. */
 void random_setup(setup *s, uint8_t *memory);
+/* A third of the words has high byte 0 and, where there are silent keys, a third low byte 0; else none has. */
+void random_periods(setup *s, int silent_keys);
 /* Legal, or with one thing wrong. */
 void random_record(hem_player *player);
 

@@ -144,8 +144,10 @@ int main(int argc, char **argv)
     seed_random(seed);
     test_layout();
     test_samples();
+    test_silent_keys();
     test_check(rounds);
     test_player(rounds);
+    test_tables(rounds);
 #ifndef WITHOUT_WORDS
     test_words(rounds);
 #endif

@@ -35,10 +35,26 @@ int right_address(const setup *s, uint32_t number, uint32_t channel, uint32_t of
 int same_record(const hem_player *a, const ref_player *b);
 ref_player as_reference(const hem_player *player);
 
+/* The check gives the number and writes this to a verdict of zeros. */
+void expect_verdict(const setup *s, uint32_t number, const uint32_t wanted[HEM_VERDICT_WORDS]);
+/* The track starts, and stops in this frame. */
+void start_track(const setup *s, uint32_t frame, hem_player *player);
+/* From the check and from start. */
+void expect_pass(const setup *s, uint32_t frame, uint32_t channel);
+/* A frame's number, kind and frames left, and the place it tells: three zeros where there is none. */
+void expect_frame(const setup *s, hem_player *player, uint32_t number, uint32_t kind, uint32_t left, uint32_t channel,
+                  uint32_t offset, uint32_t address);
+/* So many up to the track's stop. */
+void expect_events(const setup *s, hem_player *player, uint32_t frames);
+/* From the check, from start, from the frame that meets it and from the next one. */
+void expect_fault(const setup *s, uint32_t number, uint32_t channel, uint32_t offset, uint32_t frame, uint32_t address);
+
 void test_layout(void);
 void test_samples(void);
+void test_silent_keys(void);
 void test_check(unsigned long rounds);
 void test_player(unsigned long rounds);
+void test_tables(unsigned long rounds);
 void test_words(unsigned long rounds);
 void test_mother(unsigned long rounds);
 void test_mother_check(unsigned long rounds);

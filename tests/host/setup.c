@@ -22,6 +22,11 @@ uint8_t *header_of(const setup *s)
     return byte_at(s, s->places.header_block + offset);
 }
 
+uint8_t *periods_of(const setup *s)
+{
+    return byte_at(s, s->places.key_periods);
+}
+
 void name_channel(setup *s, int channel, uint32_t address)
 {
     uint8_t *entry = header_of(s) + ADDRESSES + 2 * channel;
@@ -54,11 +59,7 @@ static void put_tables(setup *s)
     };
     static const uint8_t envelope[] = { 0x04, 0x02, 0xFF };
     memcpy(byte_at(s, s->places.note_lengths), lengths, sizeof lengths);
-    for (uint32_t key = 0; key < PERIOD_BYTES / 2; key++) {
-        uint32_t period = key == 1 ? 0 : 0x07F0 - 31 * key;
-        byte_at(s, s->places.key_periods + 2 * key)[0] = (uint8_t)(period >> 8);
-        byte_at(s, s->places.key_periods + 2 * key)[1] = (uint8_t)period;
-    }
+    put_periods(periods_of(s));
     for (uint32_t i = 1; i < PRESET_BYTES; i++)
         *byte_at(s, s->places.noise_presets + i) = (uint8_t)(0x10 + i);
     for (uint32_t i = 0; i < ENVELOPES; i++) {

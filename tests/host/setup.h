@@ -3,6 +3,7 @@
 #define SETUP_H
 
 #include "hemgosling.h"
+#include "periods.h"
 #include "reference.h"
 
 typedef struct {
@@ -32,7 +33,7 @@ enum {
     ENVELOPE_2 = 4,
     ADDRESSES = 5,
     LENGTH_BYTES = 40,
-    PERIOD_BYTES = 128,
+    PERIOD_BYTES = 2 * PERIOD_KEYS,
     PRESET_BYTES = 13,
     ENVELOPES = 5,
     ENVELOPE_TABLE_BYTES = 2 * ENVELOPES,
@@ -46,6 +47,7 @@ enum {
 uint8_t *byte_at(const setup *s, uint32_t address);
 void put_low_first(setup *s, uint32_t address, uint32_t word);
 uint8_t *header_of(const setup *s);
+uint8_t *periods_of(const setup *s);
 void name_channel(setup *s, int channel, uint32_t address);
 uint32_t named_address(const setup *s, uint32_t channel);
 /* Puts the bytes at the address and names it in the header. */
@@ -53,7 +55,8 @@ void put_channel(setup *s, int channel, uint32_t address, const uint8_t *bytes, 
 /* The same at the channel's own address. */
 void use_channel(setup *s, int channel, const uint8_t *bytes, size_t count);
 
-/* A zeroed bank of 16,384 bytes with the published places and lengths, tempo 150 BPM, no track using any channel. */
+/* A zeroed bank of 16,384 bytes with the published places and lengths, the formula's periods, tempo 150 BPM, no track
+   using any channel. */
 void plain_setup(setup *s, uint8_t *bank);
 
 /* Tracks that the tests and the benchmark share. */

@@ -21,6 +21,34 @@ enum { EACH_START = 3, EACH_FRAME = 6, LEAST_EACH = EACH_START + EACH_FRAME + 3 
 static unsigned long kinds[HEM_REFUSED + 1], states[HEM_NOTE + 1], past_bank_end;
 static unsigned long ends, restarts, faults, too_many, too_many_stopped, none_left;
 
+/* How often a silent key was told as a rest: one above 1, key 0, one whose word is not 0; and how often a note was of
+   key 1, or of a word with high byte 0. */
+static unsigned long silent_keys, silent_key_0, silent_not_0, notes_of_key_1, notes_high_0;
+
+static void count_keys(const setup *s, const ref_player *next, const uint32_t *answer)
+{
+    for (int i = HEM_SQUARE_1; i <= HEM_TRIANGLE; i++) {
+        uint32_t state = answer[HEM_ANSWER_PART(i) + HEM_PART_STATE];
+        if (state == HEM_OFF)
+            continue;
+        uint32_t key = next->channels[i].sounding / 2u;
+        const uint8_t *word = periods_of(s) + 2 * key;
+        silent_keys += state == HEM_REST && key > 1;
+        silent_key_0 += state == HEM_REST && key == 0;
+        silent_not_0 += state == HEM_REST && word[0] != 0;
+        notes_of_key_1 += state == HEM_NOTE && key == 1;
+        notes_high_0 += state == HEM_NOTE && word[0] == 0;
+    }
+}
+
+static void expect_keys_seen(unsigned long rounds)
+{
+    printf("silent keys: above 1 %lu, key 0 %lu, word not 0 %lu; notes: key 1 %lu, high byte 0 %lu\n", silent_keys,
+           silent_key_0, silent_not_0, notes_of_key_1, notes_high_0);
+    EXPECT(silent_keys > rounds && silent_key_0 > rounds / 20 && silent_not_0 > rounds);
+    EXPECT(notes_of_key_1 > rounds / 4 && notes_high_0 > rounds);
+}
+
 static void count_frames(const hem_player *given, uint32_t number, const uint32_t *answer)
 {
     int above = given->frames_left > MOST_FRAMES || given->pass_length > MOST_FRAMES;
@@ -51,6 +79,7 @@ static void expect_all_seen(unsigned long rounds)
     printf("too many frames: %lu, of them stopped %lu; events with no frames left: %lu\n", too_many, too_many_stopped,
            none_left);
     EXPECT(too_many > rounds / 20 && too_many_stopped > rounds / 500 && none_left > rounds / 20);
+    expect_keys_seen(rounds);
 }
 
 static void compare_start(const setup *s, hem_player *player)
@@ -78,6 +107,7 @@ static uint32_t compare_frame(const setup *s, hem_player *player, size_t room)
     memcpy(wanted, told, written * sizeof told[0]);
     count_answer(told);
     count_frames(&given, wanted_number, told);
+    count_keys(s, &next, told);
     uint32_t number = hem_frame(player, SETUP(s), found, room);
     count_number(FRAME, number);
     EXPECT(number == wanted_number);

@@ -101,7 +101,7 @@ static void tell_note(const ref_track *track, int channel, const ref_channel *ch
 static void tell(const ref_track *track, int channel, const ref_channel *ch, int began, uint32_t *part)
 {
     part[1] = began ? 1 : 0;
-    if (!ref_is_rest(ref_kind_of(channel), ch->sounding)) {
+    if (!ref_is_rest(ref_kind_of(channel), ch->sounding, track->periods)) {
         part[0] = REF_NOTE;
         tell_note(track, channel, ch, part);
         return;

@@ -59,7 +59,8 @@ typedef enum {
 ref_byte ref_byte_class(uint8_t byte);
 /* A key, rest or preset directly after BL, or sounding. For a melodic channel 00 is one: key 0. */
 int ref_is_sound(ref_kind kind, uint8_t byte);
-int ref_is_rest(ref_kind kind, uint8_t byte);
+/* Of such a byte. A key is a rest if its word in the period table, high byte first, has low byte 0; of noise 01 is. */
+int ref_is_rest(ref_kind kind, uint8_t byte, const uint8_t periods[128]);
 
 /* Straight reading: 0 or the refusal. *count: words written (after a refusal, those of the commands before it).
    *offset: of the byte, for 10, 11 and 15; else 0. */

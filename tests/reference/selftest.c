@@ -5,7 +5,7 @@
 #include <string.h>
 
 /* Fewer would say that some of the tests did not run. */
-#define LEAST_CHECKS 1400000u
+#define LEAST_CHECKS 1550000u
 
 static const char zero_bank_lines[] =
     "0 refuse 9\n1 refuse 9\n2 refuse 9\n3 refuse 9\n4 refuse 9\n5 refuse 9\n"
@@ -73,6 +73,7 @@ static void test_cue_of_full_data(void)
 int main(void)
 {
     test_samples();
+    test_silent_keys();
     test_published();
     test_refusals();
     test_addresses();

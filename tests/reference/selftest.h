@@ -2,6 +2,7 @@
 #ifndef SELFTEST_H
 #define SELFTEST_H
 
+#include "periods.h"
 #include "reference.h"
 
 /* A bank with the published tables and one track's header to fill in. */
@@ -33,9 +34,9 @@ size_t put_hex(cart *c, uint32_t address, const char *hex);
 void set_address(cart *c, int channel, uint16_t address);
 /* Puts the data at the channel's place and names it in the header. */
 void use_channel(cart *c, int channel, const char *hex);
+uint8_t *cart_periods(cart *c);
 size_t hex_bytes(const char *hex, uint8_t *out);
 
-uint32_t period_of_key(unsigned key);
 uint8_t preset_byte(unsigned offset);
 
 int same_record(const ref_player *a, const ref_player *b);
@@ -47,6 +48,10 @@ void expect_fault(cart *c, uint32_t number, uint32_t channel, uint32_t offset, u
 void expect_countdown(cart *c, size_t len, uint32_t track);
 /* Runs start and frames 0 to n; the answer is frame n's. */
 uint32_t frame_after(cart *c, uint64_t n, ref_player *p, uint32_t *answer);
+/* A channel's five words, and whether they are these. */
+const uint32_t *part_of(const uint32_t *answer, int channel);
+int tells_part(const uint32_t *answer, int channel, uint32_t state, uint32_t began, uint32_t third, uint32_t fourth,
+               uint32_t fifth);
 /* What the answer says of a fault's place; three zeros of no fault. */
 int place_is(const uint32_t *answer, uint32_t channel, uint32_t offset, uint32_t address);
 /* Behind the kind all words are 0 but the frames left. */
@@ -55,6 +60,7 @@ int tells_only_left(const uint32_t *answer, uint32_t left);
 uint32_t random_below(uint32_t limit);
 
 void test_samples(void);
+void test_silent_keys(void);
 void test_published(void);
 void test_refusals(void);
 void test_addresses(void);

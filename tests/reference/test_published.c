@@ -41,6 +41,26 @@ static void test_tempos(void)
         }
 }
 
+/* The formula's words as a bank has them: from key 2 on they fall, and two keys are silent. */
+static void test_periods(void)
+{
+    static const struct { unsigned key; uint32_t word; } words[] = {
+        { 0x00, 0x07F1 }, { 0x01, 0x0000 }, { 0x02, 0x064D }, { 0x03, 0x05F3 }, { 0x04, 0x054C },
+        { 0x05, 0x0500 }, { 0x15, 0x01FB }, { 0x1A, 0x017C }, { 0x21, 0x00FD }, { 0x3F, 0x002C },
+    };
+    cart *c = new_cart();
+    for (size_t i = 0; i < sizeof words / sizeof words[0]; i++) {
+        const uint8_t *word = cart_at(c, 0xBE77 + 2 * words[i].key);
+        CHECK(period_of_key(words[i].key) == words[i].word);
+        CHECK(word[0] == words[i].word / 256 && word[1] == words[i].word % 256);
+    }
+    for (unsigned key = 0; key < PERIOD_KEYS; key++)
+        CHECK((period_of_key(key) % 256 == 0) == (key == 1 || key == 5));
+    for (unsigned key = 3; key < PERIOD_KEYS; key++)
+        CHECK(period_of_key(key) < period_of_key(key - 1));
+    free(c);
+}
+
 /* Loop of three notes and two rests, ten times, then two quarter notes. */
 static void test_first_example(void)
 {
@@ -209,6 +229,7 @@ void test_published(void)
     static const uint8_t defaults[7] = { 0xB3, 0x92, 0x34, 0xF4, 0xB6, 0x0F, 0x00 };
     test_header_example();
     test_tempos();
+    test_periods();
     test_first_example();
     test_second_example();
     test_envelope_sizes();

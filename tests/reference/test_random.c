@@ -14,7 +14,13 @@ static uint8_t random_sound(ref_kind kind)
     static const uint8_t noise[4] = { 0x01, 0x04, 0x07, 0x0A };
     if (kind == REF_NOISE)
         return noise[random_below(4)];
-    return (uint8_t)(2 + 2 * random_below(63));
+    return (uint8_t)(random_below(16) == 0 ? 0x02 : 2 + 2 * random_below(63));
+}
+
+/* Directly after BL or sounding, where key 0 is one too. */
+static uint8_t random_sound_or_key_0(ref_kind kind)
+{
+    return kind == REF_MELODIC && random_below(16) == 0 ? 0 : random_sound(kind);
 }
 
 /* One random command, legal most of the time. Returns its size. */
@@ -23,7 +29,7 @@ static size_t random_command(ref_kind kind, uint8_t *out)
     uint32_t die = random_below(200);
     if (die < 70) {
         out[0] = (uint8_t)(0xB0 + random_below(random_below(8) == 0 ? 16 : 4));
-        out[1] = random_below(60) == 0 ? (uint8_t)random_below(256) : random_sound(kind);
+        out[1] = random_below(60) == 0 ? (uint8_t)random_below(256) : random_sound_or_key_0(kind);
         return 2;
     }
     if (die < 120)
@@ -69,6 +75,16 @@ static void random_lengths(cart *c)
     }
 }
 
+/* A third of the keys is silent, and a third has high byte 0. */
+static void random_periods(cart *c)
+{
+    for (unsigned key = 0; key < PERIOD_KEYS; key++) {
+        uint32_t high = random_below(3) == 0 ? 0 : random_below(256);
+        uint32_t low = random_below(3) == 0 ? 0 : 1 + random_below(255);
+        put_period(cart_periods(c), key, 256 * high + low);
+    }
+}
+
 static void random_envelopes(cart *c)
 {
     for (uint32_t i = 0; i < 5; i++) {
@@ -88,9 +104,11 @@ static cart *random_cart(void)
     memset(cart_at(c, 0xB800), 0, 0x800);
     c->places.note_lengths = 0xA800;
     c->places.header_block = 0xA900;
+    c->places.key_periods = 0xAA00;
     c->places.default1 = (uint8_t)random_below(256);
     c->places.default2 = (uint8_t)(random_below(2) * random_below(256));
     random_lengths(c);
+    random_periods(c);
     random_envelopes(c);
     cart_header(c)[HEADER_WINDOW] = (uint8_t)random_below(32);
     cart_header(c)[HEADER_RESTART] = (uint8_t)random_below(2);
@@ -159,7 +177,7 @@ static ref_channel random_channel(ref_kind kind)
     ch.counter = (uint8_t)random_below(random_below(8) == 0 ? 256 : 3);
     ch.length = (uint8_t)random_below(5);
     ch.left = (uint8_t)random_below(random_below(8) == 0 ? 6 : ch.length + 1u);
-    ch.sounding = random_below(8) == 0 ? (uint8_t)random_below(256) : random_sound(kind);
+    ch.sounding = random_below(8) == 0 ? (uint8_t)random_below(256) : random_sound_or_key_0(kind);
     return ch;
 }
 
@@ -188,6 +206,45 @@ static void check_frames(cart *c, const ref_player *given, const ref_player *nex
     }
 }
 
+/* How often a silent key came: one above 1, key 0, one whose word is not 0; and how often a note of key 1, or of a word
+   with high byte 0. */
+static unsigned silent_keys, silent_key_0, silent_not_0, notes_of_key_1, notes_high_0;
+
+static void count_key(unsigned key, uint32_t word)
+{
+    int silent = word % 256 == 0;
+    silent_keys += silent && key > 1;
+    silent_key_0 += silent && key == 0;
+    silent_not_0 += silent && word != 0;
+    notes_of_key_1 += !silent && key == 1;
+    notes_high_0 += !silent && word < 256;
+}
+
+/* A used melodic channel tells the sounding key and its word, or a rest. */
+static void check_keys(cart *c, const ref_player *next, const uint32_t *answer)
+{
+    for (int i = 0; i < REF_NOISE_CHANNEL; i++) {
+        const uint32_t *part = part_of(answer, i);
+        if (part[0] == REF_OFF)
+            continue;
+        unsigned key = next->channels[i].sounding / 2u;
+        uint32_t word = 256u * cart_periods(c)[2 * key] + cart_periods(c)[2 * key + 1];
+        int silent = word % 256 == 0;
+        CHECK(part[0] == (silent ? REF_REST : REF_NOTE));
+        CHECK(part[2] == (silent ? 0 : key) && part[3] == (silent ? 0 : word));
+        CHECK(!silent || part[4] == (i == REF_TRIANGLE ? 0 : 0x10));
+        count_key(key, word);
+    }
+}
+
+static void expect_keys_seen(void)
+{
+    printf("silent keys: above 1 %u, key 0 %u, word not 0 %u; notes: key 1 %u, high byte 0 %u\n", silent_keys,
+           silent_key_0, silent_not_0, notes_of_key_1, notes_high_0);
+    CHECK(silent_keys > 1000 && silent_key_0 > 50 && silent_not_0 > 500);
+    CHECK(notes_of_key_1 > 100 && notes_high_0 > 1000);
+}
+
 static void test_one_record(cart *c, const ref_player *given)
 {
     ref_player p = *given;
@@ -197,6 +254,7 @@ static void test_one_record(cart *c, const ref_player *given)
     CHECK(number == 0 || (number >= REF_NO_COMMAND && number <= REF_BAD_RECORD));
     check_address(c, number, answer[REF_ANSWER_CHANNEL], answer[REF_ANSWER_OFFSET], answer[REF_ANSWER_ADDRESS]);
     check_frames(c, given, &p, answer);
+    check_keys(c, &p, answer);
     if (given->frames_left > 16777216 || given->pass_length > 16777216) {
         CHECK(number == REF_BAD_RECORD);
         too_many_frames++;
@@ -233,6 +291,7 @@ static void test_records(void)
         CHECK(verdicts[number] > 0);
     CHECK(verdicts[REF_BAD_RECORD] > 1000);
     CHECK(too_many_frames > 1000);
+    expect_keys_seen();
     CHECK(past_bank_end > 10);
 }
 

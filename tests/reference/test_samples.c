@@ -4,18 +4,6 @@
 #include <stdlib.h>
 #include <string.h>
 
-static const uint32_t *part(const uint32_t *answer, int channel)
-{
-    return &answer[REF_ANSWER_PARTS + REF_PART_WORDS * channel];
-}
-
-static int part_is(const uint32_t *answer, int channel, uint32_t a, uint32_t b, uint32_t c, uint32_t d,
-                   uint32_t e)
-{
-    const uint32_t *p = part(answer, channel);
-    return p[0] == a && p[1] == b && p[2] == c && p[3] == d && p[4] == e;
-}
-
 static void triangle_passes(const char *hex, uint64_t frame)
 {
     cart *c = new_cart();
@@ -56,14 +44,14 @@ static void test_one_note(void)
         CHECK(frame_after(c, n, &p, answer) == 0);
         CHECK(answer[0] == REF_EVENTS);
         CHECK(answer[1 + REF_TRIANGLE] == (n == 0 ? 1u : 0u) && place_is(answer, 0, 0, 0));
-        CHECK(part_is(answer, REF_TRIANGLE, REF_NOTE, n == 0, 0x15, period_of_key(0x15), 20));
-        CHECK(part_is(answer, 0, REF_OFF, 0, 0, 0, 0));
+        CHECK(tells_part(answer, REF_TRIANGLE, REF_NOTE, n == 0, 0x15, period_of_key(0x15), 20));
+        CHECK(tells_part(answer, 0, REF_OFF, 0, 0, 0, 0));
         CHECK(p.channels[REF_TRIANGLE].left == 5 - n);
         CHECK(p.frames_left == 5 - n && p.pass_length == 6);
     }
     CHECK(frame_after(c, 6, &p, answer) == 0);
     CHECK(answer[0] == REF_END && answer[1 + REF_TRIANGLE] == 1 && place_is(answer, 0, 0, 0));
-    CHECK(part_is(answer, REF_TRIANGLE, REF_OFF, 0, 0, 0, 0));
+    CHECK(tells_part(answer, REF_TRIANGLE, REF_OFF, 0, 0, 0, 0));
     CHECK(same_record(&p, &stopped));
     CHECK(frame_after(c, 7, &p, answer) == 0);
     CHECK(answer[0] == REF_STOPPED && answer[1 + REF_TRIANGLE] == 0 && place_is(answer, 0, 0, 0));
@@ -84,7 +72,7 @@ static void test_restart(void)
     CHECK(same_record(&p, &again));
     CHECK(frame_after(c, 7, &p, answer) == 0);
     CHECK(answer[0] == REF_EVENTS);
-    CHECK(part_is(answer, REF_TRIANGLE, REF_NOTE, 1, 0x15, period_of_key(0x15), 20));
+    CHECK(tells_part(answer, REF_TRIANGLE, REF_NOTE, 1, 0x15, period_of_key(0x15), 20));
     free(c);
 }
 
@@ -127,7 +115,7 @@ static void test_loop_counts(void)
         CHECK(answer[0] == (n == 36 ? REF_END : REF_EVENTS));
         CHECK(answer[1 + REF_TRIANGLE] == wanted);
         if (n < 36 && n % 12 >= 6)
-            CHECK(part_is(answer, REF_TRIANGLE, REF_REST, n % 12 == 6, 0, 0, 0));
+            CHECK(tells_part(answer, REF_TRIANGLE, REF_REST, n % 12 == 6, 0, 0, 0));
     }
     free(c);
 }
@@ -139,7 +127,7 @@ static void test_key_zero(void)
     uint32_t answer[REF_ANSWER_WORDS];
     use_channel(c, REF_TRIANGLE, "B0 00 00");
     CHECK(frame_after(c, 5, &p, answer) == 0);
-    CHECK(part_is(answer, REF_TRIANGLE, REF_NOTE, 0, 0, period_of_key(0), 20));
+    CHECK(tells_part(answer, REF_TRIANGLE, REF_NOTE, 0, 0, period_of_key(0), 20));
     free(c);
 }
 
@@ -158,7 +146,7 @@ static void test_same_frame(void)
     use_channel(c, REF_NOISE_CHANNEL, "B0 04 00");
     expect_fault(c, REF_NO_COMMAND, REF_TRIANGLE, 2, 6, 0x9402);
     CHECK(frame_after(c, 5, &before, answer) == 0);
-    CHECK(part_is(answer, REF_NOISE_CHANNEL, REF_NOTE, 0, preset_byte(4), preset_byte(5), preset_byte(6)));
+    CHECK(tells_part(answer, REF_NOISE_CHANNEL, REF_NOTE, 0, preset_byte(4), preset_byte(5), preset_byte(6)));
     for (uint64_t n = 6; n < 9; n++) {
         CHECK(frame_after(c, n, &p, answer) == REF_NO_COMMAND);
         CHECK(answer[0] == REF_REFUSED && answer[3] == 0 && answer[4] == 0);
@@ -206,9 +194,9 @@ static void test_envelope_default(uint8_t ctrl, uint32_t first, uint32_t second,
         uint32_t wanted = index == 0 ? first : index == 1 ? second : then;
         CHECK(frame_after(c, n, &p, answer) == 0);
         if (n / 6 == 1)
-            CHECK(part_is(answer, 0, REF_REST, index == 0, 0, 0, 0x10));
+            CHECK(tells_part(answer, 0, REF_REST, index == 0, 0, 0, 0x10));
         else
-            CHECK(part(answer, 0)[0] == REF_NOTE && part(answer, 0)[4] == wanted);
+            CHECK(part_of(answer, 0)[0] == REF_NOTE && part_of(answer, 0)[4] == wanted);
     }
     free(c);
 }

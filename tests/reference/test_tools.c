@@ -70,9 +70,9 @@ void use_channel(cart *c, int channel, const char *hex)
     set_address(c, channel, (uint16_t)DATA_ADDRESS(channel));
 }
 
-uint32_t period_of_key(unsigned key)
+uint8_t *cart_periods(cart *c)
 {
-    return 0x0700u + 3u * key;
+    return cart_at(c, c->places.key_periods);
 }
 
 uint8_t preset_byte(unsigned offset)
@@ -88,10 +88,7 @@ cart *new_cart(void)
         abort();
     c->places = ref_published_places();
     memcpy(cart_at(c, c->places.note_lengths), published_lengths, sizeof published_lengths);
-    for (unsigned key = 0; key < 64; key++) {
-        *cart_at(c, c->places.key_periods + 2 * key) = (uint8_t)(period_of_key(key) >> 8);
-        *cart_at(c, c->places.key_periods + 2 * key + 1) = (uint8_t)(period_of_key(key) & 0xFF);
-    }
+    put_periods(cart_periods(c));
     for (unsigned i = 0; i < 13; i++)
         *cart_at(c, c->places.noise_presets + i) = preset_byte(i);
     cart_header(c)[HEADER_WINDOW] = 0x0B;
@@ -171,6 +168,18 @@ uint32_t frame_after(cart *c, uint64_t n, ref_player *p, uint32_t *answer)
     for (uint64_t i = 0; i <= n; i++)
         number = ref_frame(p, c->bytes, REF_BANK_SIZE, &c->places, 0, answer);
     return number;
+}
+
+const uint32_t *part_of(const uint32_t *answer, int channel)
+{
+    return &answer[REF_ANSWER_PARTS + REF_PART_WORDS * channel];
+}
+
+int tells_part(const uint32_t *answer, int channel, uint32_t state, uint32_t began, uint32_t third, uint32_t fourth,
+               uint32_t fifth)
+{
+    const uint32_t *p = part_of(answer, channel);
+    return p[0] == state && p[1] == began && p[2] == third && p[3] == fourth && p[4] == fifth;
 }
 
 int place_is(const uint32_t *answer, uint32_t channel, uint32_t offset, uint32_t address)

@@ -1,7 +1,6 @@
 /* Bytes of a channel, and commands as words. */
 #include "reference.h"
 
-#define REST_MELODIC 0x02
 #define REST_NOISE 0x01
 #define LAST_KEY_BYTE 0x7E
 
@@ -27,9 +26,12 @@ int ref_is_sound(ref_kind kind, uint8_t byte)
     return byte <= LAST_KEY_BYTE && byte % 2 == 0;
 }
 
-int ref_is_rest(ref_kind kind, uint8_t byte)
+int ref_is_rest(ref_kind kind, uint8_t byte, const uint8_t periods[128])
 {
-    return byte == (kind == REF_NOISE ? REST_NOISE : REST_MELODIC);
+    if (kind == REF_NOISE)
+        return byte == REST_NOISE;
+    /* a key's byte is twice the key, and so the offset of its word */
+    return periods[byte + 1] == 0;
 }
 
 /* The refusal of the command at `at`, or 0 with its size in bytes. */

@@ -9,6 +9,8 @@ PUBLISHED_LENGTHS = [
     4, 8, 16, 32, 64, 24, 48, 12, 11, 5, 2, 6, 12, 24, 48, 96, 36, 72, 18, 16,
     8, 3, 16, 7, 14, 28, 56, 112, 42, 84, 21, 18, 2, 3, 32, 252, 179, 173, 77, 6,
 ]
+# key 1 is the rest, and no other word has low byte 0
+PLAIN_PERIODS = [0 if key == 1 else 0x7F1 - 29 * key for key in range(64)]
 # window $1f: L 1 is 2 frames, L 2 is 3 frames
 WINDOW = 0x1F
 
@@ -18,12 +20,12 @@ def track(window=WINDOW, restart=0, release=0, envelopes=(0, 0), square1=None, s
 
 
 class Bank:
-    def __init__(self, lengths=PUBLISHED_LENGTHS):
+    def __init__(self, lengths, periods):
         self.bytes = bytearray(16384)
         self.free = 0x9000
         self.headers = 0
         self.put(LENGTHS, bytes(lengths))
-        self.put(PERIODS, b"".join((0x7F1 - 29 * key).to_bytes(2, "big") for key in range(64)))
+        self.put(PERIODS, b"".join(word.to_bytes(2, "big") for word in periods))
         self.put(PRESETS, bytes(range(0x30, 0x30 + 13)))
         self.put(ENVELOPES, b"".join((0xA000 + 0x10 * i).to_bytes(2, "little") for i in range(4)) + b"\x00\x10")
         self.put(0xA000, bytes.fromhex("04 02 FF"))
@@ -57,8 +59,8 @@ class Bank:
         self.headers += 1
 
 
-def bank(tracks, lengths=PUBLISHED_LENGTHS):
-    made = Bank(lengths)
+def bank(tracks, lengths=PUBLISHED_LENGTHS, periods=PLAIN_PERIODS):
+    made = Bank(lengths, periods)
     for described in tracks:
         made.add(described)
     return made.bytes
@@ -107,8 +109,30 @@ def headers():
     ], lengths)
 
 
+def silent():
+    """Keys 0, 2, 4, 5 and $3f are silent, keys 1 and 3 sound."""
+    periods = list(PLAIN_PERIODS)
+    periods[:6] = 0x0700, 0x06AE, 0x0000, 0x00FB, 0x0700, 0x0500
+    periods[0x3F] = 0x0100
+    return bank([
+        # all four, restarting; noise has bytes 4 and $0a too
+        track(restart=0xFF, envelopes=(1, 2), square1="B2 2A 08 02 00", square2="B2 0A B1 06 04 2A",
+              triangle="B2 08 B1 02 2A 06", noise="C0 B1 04 01 0A FF"),
+        # never released
+        track(release=0xF0, triangle="B1 08 2A 02 00"),
+        # as in plays: key 0, key 1 and the last key, released after 5 quarter-frames
+        track(release=0xF5, triangle="B1 00 02 B2 7E 00"),
+        # no envelopes
+        track(square1="B1 00 2A 0A 02 00", square2="B1 02 08 2A 04"),
+        # a fault behind silent keys
+        track(restart=1, square1="B1 08 0A A0", triangle="B2 2A 04"),
+        # an envelope that ends in silence, one that is a lone FF; neither channel ends in time
+        track(envelopes=(2, 3), square1="B8 08 2A 00", square2="B0 04"),
+    ], periods=periods)
+
+
 def main():
-    for make in (plays, faults, headers):
+    for make in (plays, faults, headers, silent):
         with open(os.path.join(sys.argv[1], make.__name__), "wb") as file:
             file.write(make())
 

@@ -4,3 +4,4 @@ pub mod Run
 pub mod Demand3
 pub mod Passes
 pub mod Countdown
+pub mod Alike

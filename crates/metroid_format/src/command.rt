@@ -39,7 +39,6 @@ pub enum Decoded {
     Refused(u32, usize),
 }
 
-// Key 1, byte 02, is the rest.
 fn is_key(b: u8) -> bool
     ensures { λ r. ⌜ r ≡ isKey b ⌝ }
 {

@@ -4,3 +4,4 @@ pub mod Kept
 pub mod Place
 pub mod Sounding
 pub mod Left
+pub mod Alike

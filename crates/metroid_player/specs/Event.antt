@@ -1,5 +1,5 @@
 -- Document 01, 'A frame': what the answer holds for each channel.
-use Prim.Native.Nat.{ℕ, _+_, _-_, _/_}
+use Prim.Native.Nat.{ℕ, _+_, _-_, _/_, _%_}
 use mathlib.Core.Bool.{Bool, false}
 use mathlib.Core.List.{List, [], _∷_}
 use lib.Dec.{eqb}
@@ -25,10 +25,11 @@ use Rattle.metroid_player.specs.declared.event.Event.{Event}
 abbrev pub offEvent : Event
 offEvent = record { began = false; sound = Off }
 
--- key 1 is the rest; noise: 01
-abbrev pub melodic-rest : ℕ
-melodic-rest = 0x02
+-- document 02, No. 4: a key whose period word has low byte 0 is a rest
+abbrev pub isRest : ℕ → Bool
+isRest period = eqb (period % 256) 0
 
+-- 01 is the rest
 abbrev pub noise-rest : ℕ
 noise-rest = 0x01
 
@@ -48,12 +49,13 @@ melodicRest i = pick (eqb i triangle-channel) (TriangleRest (After (record { cou
 unfoldable pub noteCtrl1 : List ℕ → Voice → Channel → ℕ
 noteCtrl1 bank voice c = ctrl1At (voice .default) (envelopeOf bank voice) (c .length .count - c .left .count)
 
--- key and period, and ctrl 1 of a square, release of a triangle
-unfoldable pub melodicNote : List ℕ → Track → ℕ → Voice → Channel → Sound
-melodicNote bank track i voice c =
-    pick (eqb i triangle-channel)
+-- a rest; else key and period, and ctrl 1 of a square, release of a triangle
+unfoldable pub melodicSound : List ℕ → Track → ℕ → Voice → Channel → Sound
+melodicSound bank track i voice c =
+    pick (isRest period) (melodicRest i)
+    (pick (eqb i triangle-channel)
     (Triangle key period (releaseOf (track .release) (c .length)))
-    (Square key period (noteCtrl1 bank voice c))
+    (Square key period (noteCtrl1 bank voice c)))
   where
     key : ℕ
     key = c .sounding / 2
@@ -74,7 +76,7 @@ byKind NoiseKind melodic noise = noise
 unfoldable pub soundOf : List ℕ → Track → ℕ → Voice → Channel → Sound
 soundOf bank track i voice c =
     byKind (voice .kind)
-    (pick (eqb (c .sounding) melodic-rest) (melodicRest i) (melodicNote bank track i voice c))
+    (melodicSound bank track i voice c)
     (noiseSound (take presets-size (drop (track .presets) bank)) (c .sounding))
 
 abbrev pub eventOf : List ℕ → Track → ℕ → Voice → Channel → Bool → Event

@@ -15,7 +15,7 @@ use metroid_format::header::Track;
 use metroid_format::header::Voice;
 ghost use mathlib.Core.Path.{_≡_};
 ghost use Rattle.engine_base.specs.Bytes.{periodAt};
-ghost use Rattle.metroid_player.specs.Event.{offEvent, envelopeOf, melodicRest, noteCtrl1, melodicNote, noiseSound, soundOf, eventOf, toldEvent};
+ghost use Rattle.metroid_player.specs.Event.{offEvent, envelopeOf, melodicRest, noteCtrl1, melodicSound, noiseSound, soundOf, eventOf, toldEvent};
 
 pub enum Sound {
     Off,
@@ -39,8 +39,6 @@ pub struct Event {
 
 // The channel that has a release.
 const TRIANGLE: usize = 2;
-
-const MELODIC_REST: u8 = 0x02;
 
 const NOISE_REST: u8 = 0x01;
 
@@ -98,11 +96,15 @@ fn note_ctrl1(bank: &[u8], voice: Voice, channel: Channel) -> u8
     ctrl1::ctrl1_at(voice.default, envelope_of(bank, voice), index)
 }
 
-fn melodic_note(bank: &[u8], track: Track, i: usize, voice: Voice, channel: Channel) -> Sound
-    ensures { λ r. ⌜ r ≡ melodicNote (now (bank .entry)) track i voice channel ⌝ }
+// A key whose word has low byte 0 is a rest.
+fn melodic_sound(bank: &[u8], track: Track, i: usize, voice: Voice, channel: Channel) -> Sound
+    ensures { λ r. ⌜ r ≡ melodicSound (now (bank .entry)) track i voice channel ⌝ }
 {
     let key = channel.sounding >> 1;
     let period = period_at(bytes::part(bank, track.periods, bank::PERIODS_SIZE), key);
+    if period % 256 == 0 {
+        return melodic_rest(i);
+    }
     if i == TRIANGLE {
         let after = release::release_of(track.release, channel.length);
         Sound::Triangle(key, period, after)
@@ -137,13 +139,7 @@ fn sound_of(bank: &[u8], track: Track, i: usize, voice: Voice, channel: Channel)
                 channel.sounding,
             )
         }
-        Kind::Melodic => {
-            if channel.sounding == MELODIC_REST {
-                melodic_rest(i)
-            } else {
-                melodic_note(bank, track, i, voice, channel)
-            }
-        }
+        Kind::Melodic => melodic_sound(bank, track, i, voice, channel),
     }
 }
 

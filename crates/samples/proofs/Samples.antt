@@ -39,7 +39,7 @@ use Rattle.metroid_player.specs.Release.{releaseOf}
 use Rattle.engine_base.specs.Ctrl1.{defaultCtrl1, combined}
 use Rattle.metroid_player.specs.Ctrl1.{ctrl1At}
 use Rattle.metroid_player.specs.Record.{soundFits, channelFits, recordFits}
-use Rattle.metroid_player.specs.Event.{envelopeOf, melodicRest, noteCtrl1, melodicNote, noiseSound, soundOf}
+use Rattle.metroid_player.specs.Event.{envelopeOf, melodicRest, noteCtrl1, melodicSound, noiseSound, soundOf}
 use Rattle.metroid_player.specs.Frame.{turnOf, settleFrom, frameOfTrack, frameOf, startOf, toldFramed}
 use Rattle.metroid_player.specs.declared.frame.Framed.{Framed}
 use Rattle.metroid_check.specs.Run.{framesFrom, runOf}
@@ -205,7 +205,8 @@ samples =
     (sees 0 ctrl1 0x04 ∷ sees 1 ctrl1 0x02 ∷ sees 2 ctrl1 0x10 ∷ sees 5 ctrl1 0x10 ∷ sees 0 left 6 ∷ sees 5 left 1 ∷ [])
     ∷ [])
 
--- the bank of all samples, by its last byte; envelope 1 is `04 02 FF`
+-- the bank of all samples, by its last byte; envelope 1 is `04 02 FF`, and keys 0, 1 and $15 have words by document 001's formula:
+-- $07F1, 0, $01FB
 abbrev bankWith : ℕ → List ℕ
 bankWith last =
     filled bank-start
@@ -214,6 +215,8 @@ bankWith last =
     ∷ piece 0xbbfa (map (λ (s : Sample). header-size * s .track) samples)
     ∷ piece 0xbcb0 (word 0x8400)
     ∷ piece 0xbd31 (flatMap (λ (s : Sample). s .puts .head) samples)
+    ∷ piece 0xbe77 (0x07 ∷ 0xf1 ∷ 0 ∷ 0 ∷ [])
+    ∷ piece 0xbea1 (0x01 ∷ 0xfb ∷ [])
     ∷ piece 0xbef7 lengths
     ∷ piece 0xbfff (last ∷ [])
     ∷ []))
@@ -246,7 +249,7 @@ foundIn bank places s = (
 )
 
 found : Sample → Told × List Seen
-unfolding flatMap samples isKey isPreset noteAfter commandOf commandAt within wordAt tablesFit placesFit headerAddress headerOf windowFits envelopeNumbersFit envelopeAddress envelopeEnds squareEnds squaresEnd addressFits addressesFit allUnused headerNumber numberOf voiceOf voicesOf trackOf openTrack lengthFault counterOf playedAt stepOf readFrom readUntil passedOf passFrom timelineOf dynamic releaseOf defaultCtrl1 combined ctrl1At soundFits channelFits recordFits periodAt envelopeOf melodicRest noteCtrl1 melodicNote noiseSound soundOf turnOf settleFrom frameOfTrack frameOf startOf framesFrom runOf stopOf soonestFrom verdictOf
+unfolding flatMap samples isKey isPreset noteAfter commandOf commandAt within wordAt tablesFit placesFit headerAddress headerOf windowFits envelopeNumbersFit envelopeAddress envelopeEnds squareEnds squaresEnd addressFits addressesFit allUnused headerNumber numberOf voiceOf voicesOf trackOf openTrack lengthFault counterOf playedAt stepOf readFrom readUntil passedOf passFrom timelineOf dynamic releaseOf defaultCtrl1 combined ctrl1At soundFits channelFits recordFits periodAt envelopeOf melodicRest noteCtrl1 melodicSound noiseSound soundOf turnOf settleFrom frameOfTrack frameOf startOf framesFrom runOf stopOf soonestFrom verdictOf
 found s = foundIn (bankWith (s .puts .last)) (counted (length samples) (published (s .default) 0)) s
 
 abbrev expected : Sample → Told × List Seen

@@ -87,4 +87,5 @@ fn main() {
     show_bank(b"plays");
     show_bank(b"faults");
     show_bank(b"headers");
+    show_bank(b"silent");
 }

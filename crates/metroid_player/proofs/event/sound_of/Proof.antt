@@ -1,5 +1,4 @@
 use borrow.Author.Needs.{needs}
-use borrow.Author.Tests.{eq-eqb, ne-eqb}
 use Rattle.metroid_player.specs.Event.{soundOf}
 use Rattle.metroid_player.proofs.event.sound_of.Statement.{statement}
 use Rattle.metroid_player.proofs.event.sound_of.Tie as tie
@@ -14,7 +13,5 @@ sound-of-spec =
     (λ c κs. search needs)
     (λ c. search needs)
     (λ c κs. search needs)
-    (λ c κs. search needs)
     (λ c. rw (c .noise-sound .ensures, c .before .part .ensures, c .before .before .enum-told .given .1))
-    (λ c. rw (c .melodic-rest .ensures, c .before .before .before .enum-told2 .given .1, eq-eqb _ _ (c .before .if1 .taken)))
-    (λ c. rw (c .melodic-note .ensures, c .before .before .before .enum-told2 .given .1, ne-eqb _ _ (c .before .if1 .left))))
+    (λ c. rw (c .melodic-sound .ensures, c .before .enum-told2 .given .1)))
