@@ -166,8 +166,7 @@ enum { HEM_EVENTS = 0, HEM_END = 1, HEM_STOPPED = 2, HEM_REFUSED = 3 };
 #define HEM_PART_KEY 2     /* squares and triangle, a note: key 0 to 63 */
 #define HEM_PART_PERIOD 3  /* squares and triangle, a note: the key's word of the period table */
 #define HEM_PART_CTRL1 4   /* squares: ctrl 1 byte for this frame; of a rest 0x10 */
-#define HEM_PART_RELEASE 4 /* triangle: a note is silenced after so many quarter-frames, or HEM_RELEASE_NEVER; of a rest
-                              0 */
+#define HEM_PART_RELEASE 4 /* triangle: quarter-frames until a note is silenced, or HEM_RELEASE_NEVER; of a rest 0 */
 #define HEM_PART_PRESET 2  /* noise, a note: three words, the preset's bytes for $400C, $400E and $400F */
 enum { HEM_OFF = 0, HEM_REST = 1, HEM_NOTE = 2 };
 #define HEM_RELEASE_NEVER 255
