@@ -74,8 +74,8 @@ static void test_row(void)
         setup s;
         begin_round((unsigned long)channel);
         loud_setup(&s);
-        for (size_t i = 0; i < COUNT_OF(changed_keys); i++)
-            put_period(periods_of(&s), changed_keys[i].key, changed_keys[i].word);
+        for (size_t i = 0; i < COUNT_OF(row_of_keys); i++)
+            put_period(periods_of(&s), row_of_keys[i].key, row_of_keys[i].word);
         use_channel(&s, channel, BYTES(0xB0, 0x2A, 0x08, 0x02, 0x0A, 0x12, 0xB0, 0x00, 0x42, 0x00));
         expect_row(&s, channel, row_of_keys, COUNT_OF(row_of_keys));
     }

@@ -26,8 +26,7 @@ static const key_word lone_keys[] = {
     { 0x3F, 0x0100, 1 }, { 0x3F, 0xFF00, 1 }, { 0x3F, 0x0001, 0 }, { 0x3F, 0x0101, 0 },
 };
 
-/* One behind the other: the formula's words, with keys 1, 4 and 9 changed. */
-static const key_word changed_keys[] = { { 0x01, 0x06AE, 0 }, { 0x04, 0x0700, 1 }, { 0x09, 0x0000, 1 } };
+/* One behind the other. */
 static const key_word row_of_keys[] = {
     { 0x15, 0x01FB, 0 }, { 0x04, 0x0700, 1 }, { 0x01, 0x06AE, 0 }, { 0x05, 0x0500, 1 },
     { 0x09, 0x0000, 1 }, { 0x00, 0x07F1, 0 }, { 0x21, 0x00FD, 0 },

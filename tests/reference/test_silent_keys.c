@@ -73,8 +73,8 @@ static void test_row(void)
 {
     for (int channel = 0; channel < MELODIC; channel++) {
         cart *c = new_loud_cart();
-        for (size_t i = 0; i < COUNT_OF(changed_keys); i++)
-            put_period(cart_periods(c), changed_keys[i].key, changed_keys[i].word);
+        for (size_t i = 0; i < COUNT_OF(row_of_keys); i++)
+            put_period(cart_periods(c), row_of_keys[i].key, row_of_keys[i].word);
         use_channel(c, channel, "B0 2A 08 02 0A 12 B0 00 42 00");
         expect_row(c, channel, row_of_keys, COUNT_OF(row_of_keys));
         free(c);

@@ -13,19 +13,17 @@ refusals and offsets are hexadecimal.
 
 import sys
 
-REST = {"m": 0x02, "n": 0x01}
-KEYS_OR_PRESETS = {"m": list(range(0x02, 0x7F, 2)), "n": [0x04, 0x07, 0x0A]}
+LONE = {"m": list(range(0x02, 0x7F, 2)), "n": [0x01, 0x04, 0x07, 0x0A]}
 ONLY_AFTER_LENGTH = {"m": [0x00], "n": []}
 
 
 def all_commands(letter):
     """Every command of the kind, as its bytes."""
-    lone = sorted(set(KEYS_OR_PRESETS[letter]) | {REST[letter]})
-    after_length = ONLY_AFTER_LENGTH[letter] + lone
+    after_length = ONLY_AFTER_LENGTH[letter] + LONE[letter]
     commands = [bytes([0x00]), bytes([0xFF])]
     commands += [bytes([0b11000000 + plays]) for plays in range(63)]
     commands += [bytes([0xB0 + index, sound]) for index in range(16) for sound in after_length]
-    commands += [bytes([sound]) for sound in lone]
+    commands += [bytes([sound]) for sound in LONE[letter]]
     return commands
 
 
