@@ -24,8 +24,9 @@ extern "C" {
 
    - A pointer points to as many elements as the length after it says (a player pointer: to one record), is aligned for
      its type and is not NULL, even where the length is 0.
-   - What is written (record, verdict, answer, told, the output of the words calls) overlaps nothing else that is lent
-     in the same call: not the bank, not another buffer. What is only read may overlap, as Mother's two banks may.
+   - What is written (record, verdict, answer, told, the output of the words calls, the data and the list of hem_mend)
+     overlaps nothing else that is lent in the same call: not the bank, not another buffer. What is only read may
+     overlap, as Mother's two banks may.
    - During a call nobody else reads or writes what the call writes, or writes what it reads (the bank, the input of the
      words calls). Any number of calls with records and buffers of their own may run at the same time on one bank.
    - For a verdict of hem_check and the frames left to hold of playing: bank bytes and all arguments from bank to
@@ -79,7 +80,7 @@ enum { HEM_SQUARE_1 = 0, HEM_SQUARE_2 = 1, HEM_TRIANGLE = 2, HEM_NOISE = 3, HEM_
    order; 10 to 15 are faults at a byte of a channel's data, named by channel, offset from the start of its data, and
    address, which is the channel's address in the track's header plus the offset. For 12 and 13 the byte is the
    set-length command's first one; for 15 it is the one that is needed, and its address may pass 0xbfff. The words calls
-   have no bank and tell the offset alone. For the Mother calls some of these numbers say something else, and 19 to 21
+   have no bank and tell the offset alone. For the Mother calls some of these numbers say something else, and 19 to 22
    are theirs alone: see there. */
 typedef enum {
     HEM_OK = 0,
@@ -101,11 +102,13 @@ typedef enum {
     HEM_PAST_DATA = 15,          /* a byte is needed past the channel's data */
     HEM_BAD_RECORD = 16,         /* hem_frame: the record given cannot be played on from (see hem_player) */
     HEM_BAD_WORD = 17,           /* hem_write_words: a word that is no command, or no end or a second one */
-    HEM_NO_ROOM = 18,            /* the words calls: the buffer is too small, or more than 256 bytes to write */
+    HEM_NO_ROOM = 18,            /* the words calls: the buffer is too small, or more than 256 bytes to write; hem_mend:
+                                    the list is too small */
     HEM_ODD_TRANSPOSE = 19,      /* Mother: a transpose byte of odd amount, in the header or in a command */
     HEM_BAD_PLAYLIST = 20,       /* Mother: a playlist's word can't be followed */
     HEM_TOO_MANY_COMMANDS = 21,  /* Mother: a channel would read a 100,001st command in one frame */
-    HEM_NO_NOTE = 22             /* hem_mother_check: a block without a note or rest */
+    HEM_NO_NOTE = 22,            /* hem_mother_check: a block without a note or rest */
+    HEM_BAD_DATA_SIZE = 23       /* hem_mend: no byte of data, or more than 256 */
 } hem_refusal;
 
 /* The player's record
@@ -251,6 +254,37 @@ uint32_t hem_read_words(uint32_t noise, const uint8_t *bytes, size_t bytes_len, 
 uint32_t hem_write_words(uint32_t noise, const uint16_t *words, size_t words_len, uint8_t *bytes, size_t bytes_len,
                          uint32_t *told, size_t told_len);
 
+/* Mends one channel's data so that it can be read: hem_read_words then returns 0, given room. What else a frame or the
+   check may refuse in it is not looked at (12 to 14 need the bank's tables), so a track may still be refused.
+
+   It reads straight through, running no loops, up to the first end command, and changes what stands in the way:
+
+     - a byte that is refused 10 or 11 becomes the rest byte (0x02, of noise 0x01), also as the second of a set-length
+       command, and reading goes on behind it
+     - if no end is met, the last byte becomes 0x00, the end, whatever it was; and if it was the second of a set-length
+       command, where 0x00 would be no end, that command's first byte becomes the rest byte as well
+
+   Nothing behind the first end is touched, and data that can be read stays as it is.
+
+   Returns 0: the data is mended, told = how many of its bytes are others than before, and list has three words for each
+   of them, in rising order of offset; the rest of list stays. Putting the old bytes back at their offsets gives the data
+   as it was. Else bytes, list and told stay as they are: 23 if bytes_len is 0 or above 256; then 18 if list_len is less
+   than three times the changes. HEM_MEND_WORDS words are always enough.
+
+   A channel's data in a bank ends after HEM_DATA_LIMIT bytes or where the bank ends: lend no more than that. Behind a
+   channel that rightly has no end, because another one ends the track, other things stand in the bank: mend only what
+   hem_check refuses. */
+#define HEM_MEND_WORDS (HEM_CHANGE_WORDS * HEM_DATA_LIMIT)
+/* The words of a change: list[HEM_CHANGE(i) + one of these]. */
+#define HEM_CHANGE_WORDS 3
+#define HEM_CHANGE_OFFSET 0
+#define HEM_CHANGE_OLD 1 /* the byte that stood there */
+#define HEM_CHANGE_NEW 2 /* the byte that stands there now */
+#define HEM_CHANGE(i) (HEM_CHANGE_WORDS * (i))
+
+uint32_t hem_mend(uint32_t noise, uint8_t *bytes, size_t bytes_len, uint16_t *list, size_t list_len, uint32_t *told,
+                  size_t told_len);
+
 /* Mother: the banks and the places in them
 
    In the later engine's format each channel has a playlist, whose words name blocks of commands, lead elsewhere (goto)
@@ -302,7 +336,7 @@ uint32_t hem_write_words(uint32_t noise, const uint16_t *words, size_t words_len
 /* A block: this many bytes from its address, or to its bank's end if that is sooner. */
 #define HEM_MOTHER_BLOCK_LIMIT 256u
 
-/* The numbers, as the Mother calls give them; 5, 17 and 18 never come.
+/* The numbers, as the Mother calls give them; 5, 17, 18 and 23 never come.
 
    Of the arguments and the track's header, tested in this order:
      1    bank8_len or banka_len is not 8,192

@@ -6,12 +6,12 @@
 #include <stdlib.h>
 #include <string.h>
 
-enum { DEFAULT_ROUNDS = 90000, MOST_MESSAGES = 20, LAST_NUMBER = HEM_NO_NOTE };
+enum { DEFAULT_ROUNDS = 90000, MOST_MESSAGES = 20, LAST_NUMBER = HEM_BAD_DATA_SIZE };
 
 #ifdef WITHOUT_WORDS
 static const library_call last_call = MOTHER_CHECK;
 #else
-static const library_call last_call = WRITE_WORDS;
+static const library_call last_call = MEND;
 #endif
 
 /* Numbers as bits. */
@@ -34,6 +34,7 @@ static const struct { const char *name; uint32_t numbers; } calls[CALLS] = {
     [READ_WORDS] = { "read words", ONE(HEM_OK) | FROM_TO(HEM_NO_COMMAND, HEM_NO_SUCH_KEY) | ONE(HEM_PAST_DATA)
                                        | ONE(HEM_NO_ROOM) },
     [WRITE_WORDS] = { "write words", ONE(HEM_OK) | FROM_TO(HEM_BAD_WORD, HEM_NO_ROOM) },
+    [MEND] = { "mend", ONE(HEM_OK) | ONE(HEM_NO_ROOM) | ONE(HEM_BAD_DATA_SIZE) },
 };
 
 static const char *part = "";
@@ -150,6 +151,7 @@ int main(int argc, char **argv)
     test_tables(rounds);
 #ifndef WITHOUT_WORDS
     test_words(rounds);
+    test_mend(rounds);
 #endif
     test_mother(rounds);
     test_mother_check(rounds);

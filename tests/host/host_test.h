@@ -22,6 +22,7 @@ typedef enum {
     MOTHER_CHECK,
     READ_WORDS,
     WRITE_WORDS,
+    MEND,
     CALLS
 } library_call;
 void count_number(library_call call, uint32_t number);
@@ -56,6 +57,7 @@ void test_check(unsigned long rounds);
 void test_player(unsigned long rounds);
 void test_tables(unsigned long rounds);
 void test_words(unsigned long rounds);
+void test_mend(unsigned long rounds);
 void test_mother(unsigned long rounds);
 void test_mother_check(unsigned long rounds);
 

@@ -5,7 +5,7 @@
 
 #include <string.h>
 
-/* The words of verdict and answer, as the paper numbers them; the independent answer has the same. */
+/* The words of verdict, answer and change, as the paper numbers them; the independent ones are the same. */
 static void test_words_told(void)
 {
     EXPECT(HEM_PASS_FRAME == 0 && HEM_PASS_CHANNEL == 1);
@@ -16,6 +16,8 @@ static void test_words_told(void)
     EXPECT(HEM_ANSWER_LEFT == 8 && HEM_ANSWER_PARTS == 9 && HEM_ANSWER_WORDS == 29);
     EXPECT(HEM_ANSWER_PART(HEM_CHANNELS) == HEM_ANSWER_WORDS);
     EXPECT(HEM_ANSWER_WORDS == REF_ANSWER_WORDS);
+    EXPECT(HEM_CHANGE_OFFSET == 0 && HEM_CHANGE_OLD == 1 && HEM_CHANGE_NEW == 2);
+    EXPECT(HEM_CHANGE_WORDS == REF_CHANGE_WORDS && HEM_CHANGE(2) == 6 && HEM_MEND_WORDS == REF_MEND_WORDS);
 }
 
 /* Start writes the 41 bytes that have a meaning and nothing around them. The triangle ends the track in frame 6. */
@@ -100,7 +102,7 @@ void test_layout(void)
 {
     static uint8_t bank[HEM_BANK_SIZE];
     setup s;
-    begin_part("layout", 29);
+    begin_part("layout", 31);
     plain_setup(&s, bank);
     use_channel(&s, HEM_SQUARE_1, BYTES(0xC2, 0xB1, 0x2A, 0xFF, 0x00));
     use_channel(&s, HEM_TRIANGLE, BYTES(0xB0, 0x30, 0x00));

@@ -1,10 +1,10 @@
 /* Reading and writing of words against the independent ones. */
-#include "host_test.h"
+#include "words_calls.h"
 
 #include <string.h>
 
 /* LEAST_EACH: expectations of one comparison. */
-enum { LONGEST = 300, LENT = LONGEST + 4, TOLD = 3, LEAST_EACH = 4, EVERY_WORD = 0x10000 };
+enum { LEAST_EACH = 4 };
 
 /* Round trips that were made: not all data reads, and not every list writes. */
 static unsigned long data_trips, list_trips;
@@ -15,39 +15,6 @@ static size_t random_room(size_t size)
     return one_in(2) ? LONGEST : below((uint32_t)size + 2);
 }
 
-/* What a call tells, as found and as wanted, of which it is lent some words. */
-typedef struct {
-    uint32_t found[TOLD], wanted[TOLD];
-    size_t room;
-} told_words;
-
-static told_words lend_told(void)
-{
-    told_words told = { .room = below(TOLD) };
-    fill_pattern(told.found, sizeof told.found);
-    fill_pattern(told.wanted, sizeof told.wanted);
-    return told;
-}
-
-static void want_told(told_words *told, size_t value)
-{
-    if (told->room > 0)
-        told->wanted[0] = (uint32_t)value;
-}
-
-static void compare_answer(library_call call, uint32_t number, uint32_t wanted_number, const told_words *told)
-{
-    count_number(call, number);
-    EXPECT(number == wanted_number);
-    EXPECT(memcmp(told->found, told->wanted, sizeof told->found) == 0);
-}
-
-/* 0 is melodic, any other number noise. */
-static uint32_t any_number_of(int noise)
-{
-    return noise ? 1 + below(UINT32_MAX) : 0;
-}
-
 static void compare_reading(int noise, const uint8_t *bytes, size_t size, size_t room)
 {
     uint16_t found[LENT], wanted[LENT];
@@ -55,8 +22,7 @@ static void compare_reading(int noise, const uint8_t *bytes, size_t size, size_t
     size_t count, offset;
     fill_pattern(found, sizeof found);
     fill_pattern(wanted, sizeof wanted);
-    ref_kind kind = noise ? REF_NOISE : REF_MELODIC;
-    uint32_t wanted_number = ref_read_words(kind, bytes, size, wanted, room, &count, &offset);
+    uint32_t wanted_number = ref_read_words(kind_of(noise), bytes, size, wanted, room, &count, &offset);
     if (wanted_number != HEM_NO_ROOM)
         want_told(&told, wanted_number == HEM_OK ? count : offset);
     uint32_t number = hem_read_words(any_number_of(noise), bytes, size, found, room, told.found, told.room);
@@ -71,7 +37,7 @@ static void compare_writing(int noise, const uint16_t *words, size_t size, size_
     size_t count;
     fill_pattern(found, sizeof found);
     fill_pattern(wanted, sizeof wanted);
-    uint32_t wanted_number = ref_write_words(noise ? REF_NOISE : REF_MELODIC, words, size, wanted, room, &count);
+    uint32_t wanted_number = ref_write_words(kind_of(noise), words, size, wanted, room, &count);
     if (wanted_number == HEM_OK)
         want_told(&told, count);
     uint32_t number = hem_write_words(any_number_of(noise), words, size, found, room, told.found, told.room);
@@ -99,7 +65,7 @@ static void all_of_two_bytes(int noise)
 static void round_of_reading(int noise)
 {
     uint8_t bytes[LENT];
-    size_t size = below(one_in(3) ? LONGEST + 1 : 30);
+    size_t size = random_size();
     random_data(noise, bytes, size);
     if (size > 0 && !one_in(3))
         bytes[below((uint32_t)size)] = 0x00;
@@ -109,7 +75,7 @@ static void round_of_reading(int noise)
 /* Commands without an end, then one; sometimes none, a second one, or a word that is none. */
 static size_t random_list(int noise, uint16_t words[LONGEST])
 {
-    size_t size = below(one_in(3) ? LONGEST + 1 : 30);
+    size_t size = random_size();
     int may_be_wrong = one_in(2);
     for (size_t i = 0; i < size; i++) {
         words[i] = noise ? 0x04 : 0x2A;

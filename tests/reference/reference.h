@@ -41,7 +41,8 @@ enum {
     REF_PAST_DATA = 15,
     REF_BAD_RECORD = 16,
     REF_BAD_WORD = 17,
-    REF_NO_ROOM = 18
+    REF_NO_ROOM = 18,
+    REF_BAD_DATA_SIZE = 23
 };
 
 typedef enum { REF_MELODIC, REF_NOISE } ref_kind;
@@ -69,6 +70,12 @@ uint32_t ref_read_words(ref_kind kind, const uint8_t *bytes, size_t len, uint16_
 /* Writing: 0, 17 or 18. *count: bytes written; a refusal writes none. */
 uint32_t ref_write_words(ref_kind kind, const uint16_t *words, size_t n, uint8_t *bytes, size_t room,
                          size_t *count);
+
+/* Mending: 0, 23 or 18. The list gets three words for each changed byte, in rising order: offset, old and new byte.
+   *count: changes. A refusal changes nothing and has none. */
+#define REF_CHANGE_WORDS 3
+#define REF_MEND_WORDS (REF_CHANGE_WORDS * REF_DATA_LIMIT)
+uint32_t ref_mend(ref_kind kind, uint8_t *bytes, size_t len, uint16_t *list, size_t room, size_t *count);
 
 typedef struct {
     uint32_t header_offsets, header_block, note_lengths, key_periods, noise_presets, envelope_addresses;

@@ -5,7 +5,7 @@
 #include <string.h>
 
 /* Fewer would say that some of the tests did not run. */
-#define LEAST_CHECKS 1550000u
+#define LEAST_CHECKS 3110000u
 
 static const char zero_bank_lines[] =
     "0 refuse 9\n1 refuse 9\n2 refuse 9\n3 refuse 9\n4 refuse 9\n5 refuse 9\n"
@@ -80,6 +80,7 @@ int main(void)
     test_cues();
     test_cue_lines();
     test_cue_of_full_data();
+    test_mend();
     test_random();
     CHECK(checks_run >= LEAST_CHECKS);
     printf("selftest: %u checks, %u failed\n", checks_run, checks_failed);

@@ -2,6 +2,7 @@
 #ifndef SELFTEST_H
 #define SELFTEST_H
 
+#include "hex.h"
 #include "periods.h"
 #include "reference.h"
 
@@ -35,7 +36,6 @@ void set_address(cart *c, int channel, uint16_t address);
 /* Puts the data at the channel's place and names it in the header. */
 void use_channel(cart *c, int channel, const char *hex);
 uint8_t *cart_periods(cart *c);
-size_t hex_bytes(const char *hex, uint8_t *out);
 
 uint8_t preset_byte(unsigned offset);
 
@@ -64,6 +64,7 @@ void test_silent_keys(void);
 void test_published(void);
 void test_refusals(void);
 void test_addresses(void);
+void test_mend(void);
 void test_random(void);
 
 #endif

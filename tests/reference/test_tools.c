@@ -40,17 +40,6 @@ void put_word(cart *c, uint32_t address, uint16_t word)
     *cart_at(c, address + 1) = (uint8_t)(word >> 8);
 }
 
-size_t hex_bytes(const char *hex, uint8_t *out)
-{
-    size_t n = 0;
-    while (*hex != '\0') {
-        char *after;
-        out[n++] = (uint8_t)strtoul(hex, &after, 16);
-        hex = after;
-    }
-    return n;
-}
-
 size_t put_hex(cart *c, uint32_t address, const char *hex)
 {
     uint8_t bytes[REF_DATA_LIMIT];

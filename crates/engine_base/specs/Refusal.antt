@@ -89,6 +89,10 @@ too-many-commands = 21
 abbrev pub no-note : ℕ
 no-note = 22
 
+-- document 02, No. 5: data to be mended are empty, or more than the limit
+abbrev pub wrong-data-size : ℕ
+wrong-data-size = 23
+
 -- Below: only private contracts and laws use these.
 
 -- 1 to 9: a bank, its places, a track number or a header is refused

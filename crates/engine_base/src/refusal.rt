@@ -43,3 +43,5 @@ pub const BAD_PLAYLIST: u32 = 20;
 pub const TOO_MANY_COMMANDS: u32 = 21;
 
 pub const NO_NOTE: u32 = 22;
+
+pub const WRONG_DATA_SIZE: u32 = 23;

@@ -3,6 +3,7 @@ pub mod Tell
 pub mod Judge
 pub mod Play
 pub mod Words
+pub mod Mend
 pub mod MotherPlaces
 pub mod MotherPlay
 pub mod MotherJudge

@@ -12,7 +12,7 @@ ghost use Rattle.hemgosling.specs.Tell.{Tells};
 ghost use Rattle.hemgosling.specs.Words.{kindOf, ReadsInto, WritesInto};
 
 // 0 is melodic, any other number noise.
-fn kind_of(noise: u32) -> Kind
+pub(crate) fn kind_of(noise: u32) -> Kind
     ensures { λ r. ⌜ r ≡ kindOf noise ⌝ }
 {
     if noise == 0 {

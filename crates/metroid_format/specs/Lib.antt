@@ -1,5 +1,6 @@
 pub mod Command
 pub mod Words
+pub mod Mend
 pub mod Bank
 pub mod Header
 pub mod Channel

@@ -22,7 +22,7 @@ use Rattle.metroid_format.proofs.words.RoundTrip.{writes-back, reads-ba
 use Rattle.metroid_format.proofs.words.Within.{read-within}
 
 -- what is written whole stands before what the buffer held
-filled-whole : (vs before after : List ℕ) → length vs ≤ length before → after ≡ sets before 0 vs → after ≡ vs ++ drop (length vs) before
+pub filled-whole : (vs before after : List ℕ) → length vs ≤ length before → after ≡ sets before 0 vs → after ≡ vs ++ drop (length vs) before
 filled-whole vs before after h e = e ∙ sets-eq vs before 0 (omega arith) ∙ rw zero-add
 
 not-zero : {number : ℕ} → Unreadable number → eqb number 0 ≡ false

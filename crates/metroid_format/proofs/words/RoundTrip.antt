@@ -134,7 +134,7 @@ unfolding Within
 within-join xs ys l at p q =
     rw (length-append xs ys, take-add (length xs) (length ys) (drop at l), p, drop-drop (length xs) at l, q)
 
-not-ended : (number at : ℕ) → Faulty number at ≡ Ended → ⊥
+pub not-ended : (number at : ℕ) → Faulty number at ≡ Ended → ⊥
 not-ended number at e = let z : _≡_ {A = ℕ} 0 1 = cc in absurd (omega arith)
 
 module _ (kind : Kind) (bytes : List ℕ) where
@@ -202,7 +202,7 @@ ended : (n count : ℕ) (f : Finish) → finished n f ≡ Wrote count → (f ≡
 ended n count Ended e = (refl, cc)
 ended n count (Faulty number at) e = let z : _≡_ {A = ℕ} 0 1 = cc in absurd (omega arith)
 
-reading-ended : (limit : ℕ) (kind : Kind) (bytes : List ℕ) (room count : ℕ) → readWords limit kind bytes room ≡ Wrote count
+pub reading-ended : (limit : ℕ) (kind : Kind) (bytes : List ℕ) (room count : ℕ) → readWords limit kind bytes room ≡ Wrote count
     → (straight kind (take limit bytes) .finish ≡ Ended) × (length (straight kind (take limit bytes) .words) ≡ count)
 unfolding readWords
 reading-ended limit kind bytes room count e =

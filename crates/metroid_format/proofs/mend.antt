@@ -1,0 +1,5 @@
+pub mod Laws
+pub mod Readable
+pub mod Changes
+pub mod Owed
+pub mod Examples

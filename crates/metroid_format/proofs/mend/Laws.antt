@@ -1,0 +1,259 @@
+-- Mending a command at a time, and listing a change at a time.
+use Prim.Native.Nat.{ℕ, zero, suc, _+_, _-_, _*_, _/_, _%_, _^_, _≤_, _<_}
+use mathlib.Core.Bool.{false}
+use mathlib.Core.List.{List, [], _∷_, _++_}
+use mathlib.Core.Path.{_≡_, refl, sym, ap, subst, _∙_}
+use native.Mathlib.Omega.{arith}
+use borrow.Author.Tests.{eq-eqb, ne-eqb, eqb-true, leb-true, leb-false, le-leb, lt-leb}
+use mir.Syntax.{w64}
+use mir.Val.{Fits}
+use lib.Dec.{leb, eqb}
+use native.Mathlib.Nat.{zero-add}
+use native.Mathlib.Numerals.{add-one}
+use lib.ListN.{length, getD, set, drop, drop-of-length-le, length-set, length-append}
+use lib.Seq.{drop-cons}
+use Rattle.engine_base.specs.Pick.{pick}
+use Rattle.engine_base.specs.Refusal.{past-data, invalid-command, invalid-note}
+use Rattle.metroid_format.specs.Command.{commandAt, commandOf, noteAfter, isNote, isEnd}
+use Rattle.metroid_format.specs.Mend.{restOf, closed, mendedBy, mendedFrom, mended, Goes, Change, changeAt, changesFrom, changes, changeWords, Lists}
+use Rattle.metroid_format.specs.declared.command.Kind.{Kind}
+use Rattle.metroid_format.specs.declared.command.Command.{Command}
+use Rattle.metroid_format.specs.declared.command.Decoded.{Decoded}
+use Rattle.metroid_format.specs.declared.command.Decoded.the-variants.{Found, Refused}
+use Rattle.engine_base.proofs.Picks.{by-test}
+use Rattle.engine_base.proofs.Buffers.{Written, written-none, written-more}
+use Rattle.metroid_format.proofs.command.Laws.{Stands, is-end, is-end-loop, is-begin, is-length, is-note, found, next-after}
+
+not-0 : (b n : ℕ) → b ≡ n → 0 < n → eqb b 0 ≡ false
+not-0 b n e h = ne-eqb b 0 (λ (z : b ≡ 0). omega arith)
+
+-- only the end command begins with 00
+pub end-byte : {kind : Kind} {bytes : List ℕ} {at : ℕ} {c : Command} {next : ℕ} → Stands kind bytes at c next → isEnd c ≡ eqb (getD bytes at 0) 0
+end-byte (is-end h e) = sym (eq-eqb _ 0 e)
+end-byte (is-end-loop h e) = sym (not-0 _ 0xff e (omega arith))
+end-byte (is-begin n s h e) = sym (not-0 _ (0xc0 + n) e (omega arith))
+end-byte (is-length l note s y h e g) = sym (not-0 _ (0xb0 + l) e (omega arith))
+end-byte (is-note b p s y h e) = sym (not-0 _ b e p)
+
+-- what is refused where a command stands: a byte past the data, the command's own, or the one behind BL
+pub data Unfit (bytes : List ℕ) (at : ℕ) : ℕ → ℕ → Type 0 where
+  past : (offset : ℕ) → length bytes ≤ offset → offset ≤ at + 1 → Unfit bytes at past-data offset
+  lone : (number : ℕ) → (number ≡ past-data → ⊥) → at < length bytes → Unfit bytes at number at
+  behind : (l : ℕ) → l < 16 → at + 1 < length bytes → getD bytes at 0 ≡ 0xb0 + l → Unfit bytes at invalid-note (at + 1)
+
+abbrev Refuses : List ℕ → ℕ → Decoded → Type 0
+Refuses bytes at (Found c next) = Unit {0}
+Refuses bytes at (Refused number offset) = Unfit bytes at number offset
+
+module _ (kind : Kind) (bytes : List ℕ) (at : ℕ) where
+  after-refuses : at < length bytes → getD bytes at 0 / 16 ≡ 0x0b → Refuses bytes at (noteAfter kind bytes (at + 1) (getD bytes at 0 % 16))
+  unfolding noteAfter
+  after-refuses h q =
+      by-test (Refuses bytes at) (leb (length bytes) (at + 1)) (λ n. past _ (leb-true _ _ n) (omega arith))
+      (λ n. by-test (Refuses bytes at) (isNote kind (getD bytes (at + 1) 0)) (λ _. tt)
+      (λ _. behind (getD bytes at 0 % 16) (omega arith) (leb-false _ _ n) (omega arith)))
+
+  refuses : Refuses bytes at (commandAt kind bytes at)
+  unfolding commandAt commandOf
+  refuses =
+      by-test (Refuses bytes at) (leb (length bytes) at) (λ n. past _ (leb-true _ _ n) (omega arith))
+      (λ n. let h = leb-false (length bytes) at n in
+      by-test (Refuses bytes at) (eqb (getD bytes at 0) 0x00) (λ _. tt)
+      (λ _. by-test (Refuses bytes at) (eqb (getD bytes at 0) 0xff) (λ _. tt)
+      (λ _. by-test (Refuses bytes at) (eqb (getD bytes at 0 / 64) 3) (λ _. tt)
+      (λ _. by-test (Refuses bytes at) (eqb (getD bytes at 0 / 16) 0x0b) (λ e. after-refuses h (eqb-true _ _ e))
+      (λ _. by-test (Refuses bytes at) (leb 0x80 (getD bytes at 0)) (λ _. lone invalid-command (λ z. omega arith) h)
+      (λ _. by-test (Refuses bytes at) (isNote kind (getD bytes at 0)) (λ _. tt) (λ _. lone invalid-note (λ z. omega arith) h)))))))
+
+  pub unfit : {number offset : ℕ} → commandAt kind bytes at ≡ Refused number offset → Unfit bytes at number offset
+  unfit e = subst (Refuses bytes at) e refuses
+
+  in-data-by : {number offset : ℕ} → Unfit bytes at number offset → (number ≡ past-data → ⊥) → (at ≤ offset) × (offset < length bytes)
+  in-data-by (past offset h i) z = absurd (z refl)
+  in-data-by (lone number y h) z = (omega arith, h)
+  in-data-by (behind l s h e) z = (omega arith, h)
+
+  pub in-data : {number offset : ℕ} → commandAt kind bytes at ≡ Refused number offset → (number ≡ past-data → ⊥) → (at ≤ offset) × (offset < length bytes)
+  in-data e z = in-data-by (unfit e) z
+
+pub length-closed : (kind : Kind) (at : ℕ) (bytes : List ℕ) → length (closed kind at bytes) ≡ length bytes
+unfolding closed
+length-closed kind at bytes =
+    let ended = length-set bytes (length bytes - 1) 0x00 in
+    by-test {A = List ℕ} (λ (x : List ℕ). length x ≡ length bytes) (eqb (at + 2) (length bytes)) (λ _. length-set (set bytes (length bytes - 1) 0x00) at (restOf kind) ∙ ended) (λ _. ended)
+
+-- r is what `rest_of` answers
+pub closes : (kind : Kind) (at : ℕ) (bytes : List ℕ) (r : ℕ) → r ≡ restOf kind → at + 2 ≡ length bytes → set (set bytes (length bytes - 1) 0x00) at r ≡ closed kind at bytes
+unfolding closed
+closes kind at bytes r e h = rw (e, eq-eqb (at + 2) (length bytes) h)
+
+module _ (kind : Kind) (bytes : List ℕ) (at : ℕ) where
+  pub mended-next : (left : ℕ) (d : Decoded) → commandAt kind bytes at ≡ d → mendedFrom kind (suc left) at bytes ≡ mendedBy kind bytes at (λ next bytes′. mendedFrom kind left next bytes′) d
+  unfolding mendedFrom
+  mended-next left d e = rw e
+
+  -- nothing is left, or the next command
+  goes-none : (after : List ℕ) → at < length bytes → length after ≡ length bytes → ((left : ℕ) → mendedFrom kind (suc left) at bytes ≡ after) → Goes kind at bytes (length bytes) after
+  goes-none after h n f =
+      record { later = h; size = n; same = λ left. f left ∙ simp (le-leb (length after) (length bytes) (omega arith)) }
+
+  goes-next : (after : List ℕ) (next : ℕ) → at < next → length after ≡ length bytes → next < length bytes
+      → ((left : ℕ) → mendedFrom kind (suc left) at bytes ≡ mendedFrom kind left next after) → Goes kind at bytes next after
+  goes-next after next h n i f =
+      record { later = h; size = n; same = λ left. f left ∙ simp (lt-leb (length after) next (omega arith)) }
+
+  -- r is what `command_at` answers
+  module _ (h : at < length bytes) (r : Decoded) (q : r ≡ commandAt kind bytes at) where
+    module _ (c : Command) (next : ℕ) (e : r ≡ Found c next) where
+      standing : Stands kind bytes at c next
+      standing = found kind bytes at (sym q ∙ e)
+
+      pub goes-end : getD bytes at 0 ≡ 0 → Goes kind at bytes (length bytes) bytes
+      goes-end z =
+          goes-none bytes h refl (λ left. mended-next left _ (sym q ∙ e) ∙ rw (end-byte standing, eq-eqb _ 0 z))
+
+      module _ (z : getD bytes at 0 ≡ 0 → ⊥) where
+        pub goes-closed : length bytes ≤ next → (after : List ℕ) → after ≡ closed kind at bytes → Goes kind at bytes (length bytes) after
+        goes-closed l after g =
+            goes-none after h (rw g (length-closed kind at bytes))
+            (λ left. mended-next left _ (sym q ∙ e) ∙ rw (end-byte standing, ne-eqb _ 0 z, le-leb _ _ l, g))
+
+        pub goes-on : next < length bytes → Goes kind at bytes next bytes
+        goes-on l =
+            goes-next bytes next (next-after standing) refl l
+            (λ left. mended-next left _ (sym q ∙ e) ∙ rw (end-byte standing, ne-eqb _ 0 z, lt-leb _ _ l))
+
+    module _ (number offset : ℕ) (e : r ≡ Refused number offset) where
+      pub goes-past : number ≡ past-data → (after : List ℕ) → after ≡ closed kind at bytes → Goes kind at bytes (length bytes) after
+      goes-past z after g =
+          goes-none after h (rw g (length-closed kind at bytes))
+          (λ left. mended-next left _ (sym q ∙ e) ∙ rw (eq-eqb number past-data z, g))
+
+      module _ (z : number ≡ past-data → ⊥) where
+        pub there : offset < length bytes
+        there = in-data kind bytes at (sym q ∙ e) z .1
+
+        pub after-fits : length bytes < 2 ^ 64 → Fits w64 (offset + 1)
+        after-fits f = record { fits = omega (arith, there) }
+
+        -- v is what `rest_of` answers
+        module _ (v : ℕ) (g : v ≡ restOf kind) where
+          same-size : length (set bytes offset v) ≡ length bytes
+          same-size = length-set bytes offset v
+
+          pub closed-size : (after : List ℕ) → after ≡ closed kind at (set bytes offset v) → length after ≡ length bytes
+          closed-size after f = rw f (length-closed kind at (set bytes offset v) ∙ same-size)
+
+          pub rests-closed : length bytes ≤ offset + 1 → (after : List ℕ) → after ≡ closed kind at (set bytes offset v) → Goes kind at bytes (length bytes) after
+          rests-closed l after f =
+              goes-none after h (closed-size after f)
+              (λ left. mended-next left _ (sym q ∙ e) ∙ rw (ne-eqb number past-data z, ← g, same-size, le-leb _ _ l, f))
+
+          pub rests-on : offset + 1 < length bytes → Goes kind at bytes (offset + 1) (set bytes offset v)
+          rests-on l =
+              let i = in-data kind bytes at (sym q ∙ e) z .0 in
+              goes-next (set bytes offset v) (offset + 1) (omega arith) same-size l
+              (λ left. mended-next left _ (sym q ∙ e) ∙ rw (ne-eqb number past-data z, ← g, same-size, lt-leb _ _ l))
+
+-- from an offset on, or nothing where that is the size of the data
+abbrev rest-from : Kind → ℕ → ℕ → List ℕ → List ℕ
+rest-from kind left at bytes = pick (leb (length bytes) at) bytes (mendedFrom kind left at bytes)
+
+all-left : (kind : Kind) (bytes : List ℕ) → rest-from kind (length bytes) 0 bytes ≡ mended kind bytes
+unfolding mendedFrom
+all-left kind [] = refl
+all-left kind (b ∷ bytes) = rw (lt-leb (length (b ∷ bytes)) 0 (omega arith))
+
+-- what is left to mend makes the data whole
+pub record Midway (kind : Kind) (before : List ℕ) (at : ℕ) (now : List ℕ) : Type 0 where
+  pub left : ℕ
+  pub enough : length now ≤ left + at
+  pub size : length now ≡ length before
+  pub same : rest-from kind left at now ≡ mended kind before
+
+module _ (kind : Kind) (before : List ℕ) where
+  pub midway-none : Midway kind before 0 before
+  midway-none = record { left = length before; enough = omega arith; size = refl; same = all-left kind before }
+
+  module _ (now : List ℕ) (at : ℕ) (m : Midway kind before at now) where
+    pub midway-all : length now ≤ at → now ≡ mended kind before
+    midway-all h = simp (le-leb _ _ h) at (m .same)
+
+    pub midway-falls : at < length now → (after : List ℕ) (next : ℕ) → Goes kind at now next after → length after - next < length now - at
+    midway-falls h after next g = omega (arith, g .later, g .size)
+
+    pub midway-more : at < length now → (after : List ℕ) (next : ℕ) → Goes kind at now next after → Midway kind before next after
+    midway-more h after next g =
+        more-by (m .left) (m .enough) (simp (lt-leb _ _ h) at (m .same))
+      where
+        more-by : (left : ℕ) → length now ≤ left + at → mendedFrom kind left at now ≡ mended kind before → Midway kind before next after
+        more-by zero n s = absurd (omega arith)
+        more-by (suc left) n s =
+            record { left = left; enough = omega (arith, g .later, g .size); size = g .size ∙ m .size; same = sym (g .same left) ∙ s }
+
+pub words-append : (cs ds : List Change) → changeWords (cs ++ ds) ≡ changeWords cs ++ changeWords ds
+unfolding changeWords
+words-append [] ds = refl
+words-append (c ∷ cs) ds = ap (λ l. c .offset ∷ c .old ∷ c .new ∷ l) (words-append cs ds)
+
+pub words-length : (cs : List Change) → length (changeWords cs) ≡ length cs * 3
+unfolding changeWords
+words-length [] = refl
+words-length (c ∷ cs) = omega (arith, words-length cs)
+
+pub one-at-most : (at old new : ℕ) → length (changeAt at old new) ≤ 1
+one-at-most at old new = by-test {A = List Change} (λ (x : List Change). length x ≤ 1) (eqb old new) (λ _. omega arith) (λ _. omega arith)
+
+module _ (list : List ℕ) (n at old new : ℕ) where
+  pub lists-none : old ≡ new → Lists n (changeAt at old new) list n list
+  unfolding changeWords
+  lists-none e = rw (eq-eqb old new e) (record { counted = omega arith; filled = refl })
+
+  -- the list with each word in turn
+  module _ (first : List ℕ) (e : first ≡ set list (n * 3) at) (w : ℕ) (f : w ≡ old) (second : List ℕ) (g : second ≡ set first (n * 3 + 1) w) (v : ℕ) (h : v ≡ new) (third : List ℕ) (i : third ≡ set second (n * 3 + 2) v) where
+    pub lists-one : (old ≡ new → ⊥) → Lists n (changeAt at old new) list (n + 1) third
+    unfolding changeWords
+    lists-one z =
+        let one : n * 3 + 1 ≡ suc (n * 3) = omega arith in
+        let two : n * 3 + 2 ≡ suc (suc (n * 3)) = omega arith in
+        rw (ne-eqb old new z) (record { counted = refl; filled = i ∙ rw (two, h, g, one, f, e) })
+
+module _ (before after : List ℕ) where
+  abbrev rest-changes : ℕ → List Change
+  rest-changes i = changesFrom i (drop i before) (drop i after)
+
+  -- after i bytes and n changes
+  pub record Listing (list now : List ℕ) (i n : ℕ) : Type 0 where
+    pub within : i ≤ length before
+    pub few : n ≤ i
+    pub counted : length (changes before after) ≡ n + length (rest-changes i)
+    pub written : Written list (changeWords (changes before after)) now (n * 3) (changeWords (rest-changes i))
+
+  pub listing-none : (list : List ℕ) → Listing list list 0 0
+  listing-none list = record { within = omega arith; few = omega arith; counted = sym (zero-add (length (changes before after))); written = written-none list (changeWords (changes before after)) }
+
+  next-change : (i : ℕ) → i < length before → length after ≡ length before → rest-changes i ≡ changeAt i (getD before i 0) (getD after i 0) ++ rest-changes (i + 1)
+  unfolding changesFrom
+  next-change i h e =
+      let j : i < length after = omega arith in
+      rw (drop-cons before i 0 h, drop-cons after i 0 j, add-one i)
+
+  module _ (list now : List ℕ) (i n : ℕ) (m : Listing list now i n) where
+    pub listing-all : length before ≤ i → Lists 0 (changes before after) list n now
+    unfolding changesFrom changeWords
+    listing-all h =
+        let none : drop i before ≡ [] = drop-of-length-le before h in
+        record { counted = omega (arith, rw none at (m .counted)); filled = sym (rw none at (m .written .buffer)) }
+
+    pub listing-more : i < length before → length after ≡ length before → (n′ : ℕ) (now′ : List ℕ) → Lists n (changeAt i (getD before i 0) (getD after i 0)) now n′ now′ → Listing list now′ (i + 1) n′
+    listing-more h e n′ now′ l =
+        let cs = changeAt i (getD before i 0) (getD after i 0) in
+        let s = next-change i h e in
+        let w = written-more (changeWords cs) (rw (s, words-append cs (rest-changes (i + 1))) at (m .written)) in
+        let k : n * 3 + length (changeWords cs) ≡ n′ * 3 = omega (arith, words-length cs, l .counted) in
+        record {
+          within = omega arith;
+          few = omega (arith, m .few, l .counted, one-at-most i (getD before i 0) (getD after i 0));
+          counted = omega (arith, rw s at (m .counted), length-append cs (rest-changes (i + 1)), l .counted);
+          written = rw (l .filled, ← k) w;
+        }

@@ -1,0 +1,25 @@
+use Prim.Native.Nat.{_-_}
+use borrow.Author.Needs.{needs}
+use lib.ListN.{length}
+use Rattle.metroid_format.proofs.mend.Laws.{Midway, midway-none, midway-falls, midway-more, midway-all}
+use Rattle.metroid_format.proofs.mend.mend_data.Statement.{statement}
+use Rattle.metroid_format.proofs.mend.mend_data.Tie as tie
+
+abbrev Inv-loop : tie.InvT-loop
+Inv-loop kind bytes₀ at₀ bytes at = Midway kind bytes₀ at bytes
+
+abbrev μ-loop : tie.MeasureT-loop
+μ-loop kind bytes₀ at₀ bytes at = length bytes - at
+
+pub mend-data-spec : {M : Type 1} → statement M
+mend-data-spec =
+    tie.close
+    (tie.spec
+    Inv-loop
+    μ-loop
+    (λ c. midway-none _ _)
+    (λ c κs. search needs)
+    (λ c. search midway-falls depth 10)
+    (λ c. search midway-more depth 10)
+    (λ c. search needs)
+    (λ c. search midway-all depth 10))
