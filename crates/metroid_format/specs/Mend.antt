@@ -128,16 +128,25 @@ pub record Mends (limit : ℕ) (kind : Kind) (bytes list : List ℕ) (answer : M
 
 -- Below: only private contracts and laws use these.
 
--- what is left to mend after the command at an offset: from another on, or nothing where that is the size of the data
-pub record Goes (kind : Kind) (at : ℕ) (before : List ℕ) (next : ℕ) (after : List ℕ) : Type 0 where
+-- what mending a command that is no end leaves: reading goes on at another offset, in the data as it is then
+pub record Passes (kind : Kind) (at : ℕ) (before : List ℕ) (next : ℕ) (after : List ℕ) : Type 0 where
   pub later : at < next
   pub size : length after ≡ length before
-  pub same : (left : ℕ) → mendedFrom kind (suc left) at before ≡ pick (leb (length after) next) after (mendedFrom kind left next after)
+  pub same : (left : ℕ) → mendedFrom kind (suc left) at before ≡ onward kind at next (λ n bytes. mendedFrom kind left n bytes) after
 
 -- behind n changes: how many there are with these, and the buffer with their words as far as they fit
 pub record Lists (n : ℕ) (cs : List Change) (before : List ℕ) (count : ℕ) (after : List ℕ) : Type 0 where
   pub counted : count ≡ n + length cs
   pub filled : after ≡ sets before (n * 3) (changeWords cs)
+
+-- data that becomes other data, and its changes in a list: all of it, or none where the list has no room
+abbrev pub changedOr : List ℕ → List ℕ → List ℕ → {A : Type 0} → A → A → A
+changedOr bytes new list x y = pick (leb (length (changeWords (changes bytes new))) (length list)) x y
+
+pub record Changed (bytes new list : List ℕ) (answer : Mending) (bytes′ list′ : List ℕ) : Type 0 where
+  pub answered : answer ≡ changedOr bytes new list (Mended (length (changes bytes new))) NoRoom
+  pub becomes : bytes′ ≡ changedOr bytes new list new bytes
+  pub listed : list′ ≡ changedOr bytes new list (changeWords (changes bytes new) ++ drop (length (changeWords (changes bytes new))) list) list
 
 -- a count is within a limit
 abbrev pub MendedWithin : ℕ → Mending → Type 0

@@ -8,9 +8,9 @@ use engine_base::bytes;
 use engine_base::refusal;
 ghost use Prim.Native.Nat.{_≤_, _<_};
 ghost use mathlib.Core.Path.{_≡_};
-ghost use lib.ListN.{length, take};
+ghost use lib.ListN.{length, getD, take};
 ghost use Rattle.metroid_format.specs.Command.{data-limit};
-ghost use Rattle.metroid_format.specs.Mend.{restOf, closed, mended, Goes, changeAt, changes, Lists, Mends};
+ghost use Rattle.metroid_format.specs.Mend.{restOf, closed, mended, Passes, changeAt, changes, Lists, Changed, Mends};
 
 pub enum Mending {
     // how many bytes were changed
@@ -44,35 +44,19 @@ fn close(kind: Kind, bytes: &mut [u8], at: usize)
     bytes[at] = rest_of(kind);
 }
 
-// The command at an offset: the offset after it, or the size of the data where nothing is left to mend.
+// A command that is no end, at an offset: a byte that is refused becomes the rest; the offset after it.
 fn mend_command(kind: Kind, bytes: &mut [u8], at: usize) -> usize
-    requires { ⌜ at < length (now bytes) ⌝ }
-    ensures { λ r. ⌜ Goes kind at (now (bytes .entry)) r (now (bytes .exit)) ⌝ }
+    requires { ⌜ (at < length (now bytes)) × (getD (now bytes) at 0 ≡ 0 → ⊥) ⌝ }
+    ensures { λ r. ⌜ Passes kind at (now (bytes .entry)) r (now (bytes .exit)) ⌝ }
 {
-    let size = bytes.len();
     match command::command_at(kind, bytes, at) {
-        Decoded::Found(_, next) => {
-            if bytes[at] == 0x00 {
-                return size;
-            }
-            if size <= next {
-                close(kind, bytes, at);
-                return size;
-            }
-            next
-        }
+        Decoded::Found(_, next) => next,
         Decoded::Refused(number, offset) => {
             if number == refusal::PAST_DATA {
-                close(kind, bytes, at);
-                return size;
+                return offset;
             }
             bytes[offset] = rest_of(kind);
-            let next = offset + 1;
-            if size <= next {
-                close(kind, bytes, at);
-                return size;
-            }
-            next
+            offset + 1
         }
     }
 }
@@ -83,7 +67,15 @@ fn mend_data(kind: Kind, bytes: &mut [u8])
 {
     let mut at: usize = 0;
     while at < bytes.len() {
-        at = mend_command(kind, bytes, at);
+        if bytes[at] == 0x00 {
+            return;
+        }
+        let next = mend_command(kind, bytes, at);
+        if bytes.len() <= next {
+            close(kind, bytes, at);
+            return;
+        }
+        at = next;
     }
 }
 
@@ -132,6 +124,22 @@ fn list_changes(before: &[u8], after: &[u8], list: &mut [u16]) -> usize
     n
 }
 
+// The data becomes other data of its size, and the changes are listed, if the list has room.
+fn change(bytes: &mut [u8], new: &[u8], list: &mut [u16]) -> Mending
+    requires { ⌜ (length (now bytes) ≤ data-limit) × (length (now new) ≡ length (now bytes)) ⌝ }
+    ensures { λ r. ⌜ Changed (now (bytes .entry)) (now (new .entry)) (now (list .entry)) r (now (bytes .exit)) (now (list .exit)) ⌝ }
+{
+    let room = list.len();
+    // no word fits: the changes are counted alone
+    let count = list_changes(bytes, new, &mut list[..0]);
+    if room < count * CHANGE_WORDS {
+        return Mending::NoRoom;
+    }
+    list_changes(bytes, new, list);
+    buffer::fill8(bytes, 0, new);
+    Mending::Mended(count)
+}
+
 // One channel's data, changed so that it reads, and three words a change.
 pub fn mend(kind: Kind, bytes: &mut [u8], list: &mut [u16]) -> Mending
     ensures { λ r. ⌜ Mends data-limit kind (now (bytes .entry)) (now (list .entry)) r (now (bytes .exit)) (now (list .exit)) ⌝ }
@@ -145,14 +153,5 @@ pub fn mend(kind: Kind, bytes: &mut [u8], list: &mut [u16]) -> Mending
     }
     let mut copy = [0u8; DATA_LIMIT];
     mend_copy(kind, bytes, &mut copy);
-    let new = bytes::part(&copy, 0, size);
-    let room = list.len();
-    // none of them fits: they are counted alone
-    let count = list_changes(bytes, new, &mut list[..0]);
-    if room < count * CHANGE_WORDS {
-        return Mending::NoRoom;
-    }
-    list_changes(bytes, new, list);
-    buffer::fill8(bytes, 0, new);
-    Mending::Mended(count)
+    change(bytes, bytes::part(&copy, 0, size), list)
 }

@@ -12,17 +12,16 @@ use native.Mathlib.Nat.{zero-add}
 use native.Mathlib.Numerals.{add-one}
 use lib.ListN.{length, getD, set, drop, drop-of-length-le, length-set, length-append}
 use lib.Seq.{drop-cons}
-use Rattle.engine_base.specs.Pick.{pick}
 use Rattle.engine_base.specs.Refusal.{past-data, invalid-command, invalid-note}
 use Rattle.metroid_format.specs.Command.{commandAt, commandOf, noteAfter, isNote, isEnd}
-use Rattle.metroid_format.specs.Mend.{restOf, closed, mendedBy, mendedFrom, mended, Goes, Change, changeAt, changesFrom, changes, changeWords, Lists}
+use Rattle.metroid_format.specs.Mend.{restOf, closed, mendedBy, mendedFrom, mended, Passes, Change, changeAt, changesFrom, changes, changeWords, Lists}
 use Rattle.metroid_format.specs.declared.command.Kind.{Kind}
 use Rattle.metroid_format.specs.declared.command.Command.{Command}
 use Rattle.metroid_format.specs.declared.command.Decoded.{Decoded}
 use Rattle.metroid_format.specs.declared.command.Decoded.the-variants.{Found, Refused}
 use Rattle.engine_base.proofs.Picks.{by-test}
 use Rattle.engine_base.proofs.Buffers.{Written, written-none, written-more}
-use Rattle.metroid_format.proofs.command.Laws.{Stands, is-end, is-end-loop, is-begin, is-length, is-note, found, next-after}
+use Rattle.metroid_format.proofs.command.Laws.{Stands, is-end, is-end-loop, is-begin, is-length, is-note, found, stands, next-after}
 
 not-0 : (b n : ℕ) → b ≡ n → 0 < n → eqb b 0 ≡ false
 not-0 b n e h = ne-eqb b 0 (λ (z : b ≡ 0). omega arith)
@@ -68,6 +67,14 @@ module _ (kind : Kind) (bytes : List ℕ) (at : ℕ) where
   pub unfit : {number offset : ℕ} → commandAt kind bytes at ≡ Refused number offset → Unfit bytes at number offset
   unfit e = subst (Refuses bytes at) e refuses
 
+  past-by : {number offset : ℕ} → Unfit bytes at number offset → number ≡ past-data → (length bytes ≤ offset) × (offset ≤ at + 1)
+  past-by (past offset h i) z = (h, i)
+  past-by (lone number y h) z = absurd (y z)
+  past-by (behind l s h e) z = absurd (omega arith)
+
+  pub past-there : {number offset : ℕ} → commandAt kind bytes at ≡ Refused number offset → number ≡ past-data → (length bytes ≤ offset) × (offset ≤ at + 1)
+  past-there e z = past-by (unfit e) z
+
   in-data-by : {number offset : ℕ} → Unfit bytes at number offset → (number ≡ past-data → ⊥) → (at ≤ offset) × (offset < length bytes)
   in-data-by (past offset h i) z = absurd (z refl)
   in-data-by (lone number y h) z = (omega arith, h)
@@ -92,104 +99,94 @@ module _ (kind : Kind) (bytes : List ℕ) (at : ℕ) where
   unfolding mendedFrom
   mended-next left d e = rw e
 
-  -- nothing is left, or the next command
-  goes-none : (after : List ℕ) → at < length bytes → length after ≡ length bytes → ((left : ℕ) → mendedFrom kind (suc left) at bytes ≡ after) → Goes kind at bytes (length bytes) after
-  goes-none after h n f =
-      record { later = h; size = n; same = λ left. f left ∙ simp (le-leb (length after) (length bytes) (omega arith)) }
-
-  goes-next : (after : List ℕ) (next : ℕ) → at < next → length after ≡ length bytes → next < length bytes
-      → ((left : ℕ) → mendedFrom kind (suc left) at bytes ≡ mendedFrom kind left next after) → Goes kind at bytes next after
-  goes-next after next h n i f =
-      record { later = h; size = n; same = λ left. f left ∙ simp (lt-leb (length after) next (omega arith)) }
-
   -- r is what `command_at` answers
-  module _ (h : at < length bytes) (r : Decoded) (q : r ≡ commandAt kind bytes at) where
-    module _ (c : Command) (next : ℕ) (e : r ≡ Found c next) where
-      standing : Stands kind bytes at c next
-      standing = found kind bytes at (sym q ∙ e)
-
-      pub goes-end : getD bytes at 0 ≡ 0 → Goes kind at bytes (length bytes) bytes
-      goes-end z =
-          goes-none bytes h refl (λ left. mended-next left _ (sym q ∙ e) ∙ rw (end-byte standing, eq-eqb _ 0 z))
-
-      module _ (z : getD bytes at 0 ≡ 0 → ⊥) where
-        pub goes-closed : length bytes ≤ next → (after : List ℕ) → after ≡ closed kind at bytes → Goes kind at bytes (length bytes) after
-        goes-closed l after g =
-            goes-none after h (rw g (length-closed kind at bytes))
-            (λ left. mended-next left _ (sym q ∙ e) ∙ rw (end-byte standing, ne-eqb _ 0 z, le-leb _ _ l, g))
-
-        pub goes-on : next < length bytes → Goes kind at bytes next bytes
-        goes-on l =
-            goes-next bytes next (next-after standing) refl l
-            (λ left. mended-next left _ (sym q ∙ e) ∙ rw (end-byte standing, ne-eqb _ 0 z, lt-leb _ _ l))
+  module _ (h : at < length bytes) (z : getD bytes at 0 ≡ 0 → ⊥) (r : Decoded) (q : r ≡ commandAt kind bytes at) where
+    pub passes-found : (c : Command) (next : ℕ) → r ≡ Found c next → Passes kind at bytes next bytes
+    passes-found c next e =
+        let s = found kind bytes at (sym q ∙ e) in
+        record { later = next-after s; size = refl; same = λ left. mended-next left _ (sym q ∙ e) ∙ rw (end-byte s, ne-eqb _ 0 z) }
 
     module _ (number offset : ℕ) (e : r ≡ Refused number offset) where
-      pub goes-past : number ≡ past-data → (after : List ℕ) → after ≡ closed kind at bytes → Goes kind at bytes (length bytes) after
-      goes-past z after g =
-          goes-none after h (rw g (length-closed kind at bytes))
-          (λ left. mended-next left _ (sym q ∙ e) ∙ rw (eq-eqb number past-data z, g))
+      pub passes-past : number ≡ past-data → Passes kind at bytes offset bytes
+      passes-past y =
+          let l = past-there kind bytes at (sym q ∙ e) y .0 in
+          record {
+            later = omega arith;
+            size = refl;
+            same = λ left. mended-next left _ (sym q ∙ e) ∙ rw (eq-eqb number past-data y, le-leb _ _ l);
+          }
 
-      module _ (z : number ≡ past-data → ⊥) where
+      module _ (y : number ≡ past-data → ⊥) where
         pub there : offset < length bytes
-        there = in-data kind bytes at (sym q ∙ e) z .1
+        there = in-data kind bytes at (sym q ∙ e) y .1
 
         pub after-fits : length bytes < 2 ^ 64 → Fits w64 (offset + 1)
         after-fits f = record { fits = omega (arith, there) }
 
         -- v is what `rest_of` answers
-        module _ (v : ℕ) (g : v ≡ restOf kind) where
-          same-size : length (set bytes offset v) ≡ length bytes
-          same-size = length-set bytes offset v
+        pub passes-rest : (v : ℕ) → v ≡ restOf kind → Passes kind at bytes (offset + 1) (set bytes offset v)
+        passes-rest v g =
+            let i = in-data kind bytes at (sym q ∙ e) y .0 in
+            record {
+              later = omega arith;
+              size = length-set bytes offset v;
+              same = λ left. mended-next left _ (sym q ∙ e) ∙ rw (ne-eqb number past-data y, ← g);
+            }
 
-          pub closed-size : (after : List ℕ) → after ≡ closed kind at (set bytes offset v) → length after ≡ length bytes
-          closed-size after f = rw f (length-closed kind at (set bytes offset v) ∙ same-size)
-
-          pub rests-closed : length bytes ≤ offset + 1 → (after : List ℕ) → after ≡ closed kind at (set bytes offset v) → Goes kind at bytes (length bytes) after
-          rests-closed l after f =
-              goes-none after h (closed-size after f)
-              (λ left. mended-next left _ (sym q ∙ e) ∙ rw (ne-eqb number past-data z, ← g, same-size, le-leb _ _ l, f))
-
-          pub rests-on : offset + 1 < length bytes → Goes kind at bytes (offset + 1) (set bytes offset v)
-          rests-on l =
-              let i = in-data kind bytes at (sym q ∙ e) z .0 in
-              goes-next (set bytes offset v) (offset + 1) (omega arith) same-size l
-              (λ left. mended-next left _ (sym q ∙ e) ∙ rw (ne-eqb number past-data z, ← g, same-size, lt-leb _ _ l))
-
--- from an offset on, or nothing where that is the size of the data
-abbrev rest-from : Kind → ℕ → ℕ → List ℕ → List ℕ
-rest-from kind left at bytes = pick (leb (length bytes) at) bytes (mendedFrom kind left at bytes)
-
-all-left : (kind : Kind) (bytes : List ℕ) → rest-from kind (length bytes) 0 bytes ≡ mended kind bytes
-unfolding mendedFrom
-all-left kind [] = refl
-all-left kind (b ∷ bytes) = rw (lt-leb (length (b ∷ bytes)) 0 (omega arith))
-
--- what is left to mend makes the data whole
+-- what is left to mend, from an offset on, makes the data whole
 pub record Midway (kind : Kind) (before : List ℕ) (at : ℕ) (now : List ℕ) : Type 0 where
   pub left : ℕ
   pub enough : length now ≤ left + at
   pub size : length now ≡ length before
-  pub same : rest-from kind left at now ≡ mended kind before
+  pub same : mendedFrom kind left at now ≡ mended kind before
+  -- only of no data at all
+  pub none : length now ≤ at → now ≡ mended kind before
+
+none-mended : (kind : Kind) (bytes : List ℕ) → length bytes ≤ 0 → bytes ≡ mended kind bytes
+unfolding mendedFrom
+none-mended kind [] h = refl
+none-mended kind (b ∷ bytes) h = absurd (omega arith)
 
 module _ (kind : Kind) (before : List ℕ) where
   pub midway-none : Midway kind before 0 before
-  midway-none = record { left = length before; enough = omega arith; size = refl; same = all-left kind before }
+  midway-none = record { left = length before; enough = omega arith; size = refl; same = refl; none = none-mended kind before }
 
   module _ (now : List ℕ) (at : ℕ) (m : Midway kind before at now) where
-    pub midway-all : length now ≤ at → now ≡ mended kind before
-    midway-all h = simp (le-leb _ _ h) at (m .same)
+    one-by : at < length now → (left : ℕ) → length now ≤ left + at → mendedFrom kind left at now ≡ mended kind before → (l : ℕ) × (length now ≤ suc l + at) × (mendedFrom kind (suc l) at now ≡ mended kind before)
+    one-by h zero n s = absurd (omega arith)
+    one-by h (suc l) n s = (l, n, s)
 
-    pub midway-falls : at < length now → (after : List ℕ) (next : ℕ) → Goes kind at now next after → length after - next < length now - at
-    midway-falls h after next g = omega (arith, g .later, g .size)
+    one : at < length now → (l : ℕ) × (length now ≤ suc l + at) × (mendedFrom kind (suc l) at now ≡ mended kind before)
+    one h = one-by h (m .left) (m .enough) (m .same)
 
-    pub midway-more : at < length now → (after : List ℕ) (next : ℕ) → Goes kind at now next after → Midway kind before next after
-    midway-more h after next g =
-        more-by (m .left) (m .enough) (simp (lt-leb _ _ h) at (m .same))
-      where
-        more-by : (left : ℕ) → length now ≤ left + at → mendedFrom kind left at now ≡ mended kind before → Midway kind before next after
-        more-by zero n s = absurd (omega arith)
-        more-by (suc left) n s =
-            record { left = left; enough = omega (arith, g .later, g .size); size = g .size ∙ m .size; same = sym (g .same left) ∙ s }
+    pub midway-past : length now ≤ at → now ≡ mended kind before
+    midway-past h = m .none h
+
+    pub midway-end : at < length now → getD now at 0 ≡ 0 → now ≡ mended kind before
+    midway-end h z =
+        let (l, n, s) = one h in
+        let e = stands kind now at (is-end h z) in
+        sym (mended-next kind now at l _ e) ∙ s
+
+    module _ (h : at < length now) (after : List ℕ) (next : ℕ) (p : Passes kind at now next after) where
+      pub midway-falls : next < length after → length after - next < length now - at
+      midway-falls n = omega (arith, p .later, p .size)
+
+      pub midway-closed : length after ≤ next → (r : List ℕ) → r ≡ closed kind at after → r ≡ mended kind before
+      midway-closed n r e =
+          let (l, i, s) = one h in
+          e ∙ sym (p .same l ∙ rw (le-leb _ _ n)) ∙ s
+
+      pub midway-more : next < length after → Midway kind before next after
+      midway-more n =
+          let (l, i, s) = one h in
+          record {
+            left = l;
+            enough = omega (arith, p .later, p .size);
+            size = p .size ∙ m .size;
+            same = sym (p .same l ∙ rw (lt-leb _ _ n)) ∙ s;
+            none = λ k. absurd (omega arith);
+          }
 
 pub words-append : (cs ds : List Change) → changeWords (cs ++ ds) ≡ changeWords cs ++ changeWords ds
 unfolding changeWords

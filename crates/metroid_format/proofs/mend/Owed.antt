@@ -1,5 +1,6 @@
 -- What mending owes: the answer, the lent data and list, and what is so of them.
 use Prim.Native.Nat.{ℕ, _+_, _*_, _≤_, _<_}
+use mathlib.Core.Bool.{Bool, true, false}
 use mathlib.Core.List.{List, [], _∷_, _++_, append-nil}
 use mathlib.Core.Path.{_≡_, refl, sym, ap, subst, _∙_}
 use native.Mathlib.Nat.{zero-add}
@@ -13,7 +14,7 @@ use lib.Seq.{sets, sets-eq, length-sets, take-at, take-all, take-length, take-ap
 use Rattle.engine_base.specs.Pick.{pick}
 use Rattle.metroid_format.specs.Command.{data-limit}
 use Rattle.metroid_format.specs.Words.{leftBy, straight, readWords, ReadWithin}
-use Rattle.metroid_format.specs.Mend.{mendedFrom, mended, changes, changesOf, changeWords, mending, toldMending, dataLeft, listLeft, Saves, Mends, Lists, MendedWithin}
+use Rattle.metroid_format.specs.Mend.{mendedFrom, mended, changes, changesOf, changeWords, mending, toldMending, dataLeft, listLeft, Saves, Mends, Lists, Changed, MendedWithin}
 use Rattle.metroid_format.specs.declared.command.Kind.{Kind}
 use Rattle.metroid_format.specs.declared.command.Finish.the-variants.{End as Ended}
 use Rattle.metroid_format.specs.declared.words.Reading.the-variants.{Wrote}
@@ -76,20 +77,50 @@ module _ (kind : Kind) (bytes array copied : List ℕ) (room : length bytes ≤ 
     pub array-size : length (m ++ drop (length bytes) copied) ≡ length array
     array-size = simp (length-append, length-drop, same-size, e, length-sets) (omega arith)
 
--- part is the mended data, from the start of a copy
-module _ (kind : Kind) (bytes copy : List ℕ) (f : take (length bytes) copy ≡ mended kind bytes) (part : List ℕ) (g : part ≡ take (length bytes) (drop 0 copy)) where
-  part-is : part ≡ mended kind bytes
-  part-is = g ∙ f
+-- the changes counted into no room, and then listed
+module _ (bytes new : List ℕ) (z : (length bytes ≤ data-limit) × (length new ≡ length bytes)) (scratch used : List ℕ) (count : ℕ) (d : Lists 0 (changes bytes new) scratch count used) where
+  counted : count ≡ length (changes bytes new)
+  counted = d .counted ∙ zero-add _
 
-  pub part-size : length part ≡ length bytes
-  part-size = rw part-is (length-mended kind bytes)
+  words-are : count * 3 ≡ length (changeWords (changes bytes new))
+  words-are = ap (λ (n : ℕ). n * 3) counted ∙ sym (words-length (changes bytes new))
 
-  module _ (scratch used : List ℕ) (count : ℕ) (d : Lists 0 (changes bytes part) scratch count used) where
-    counted : count ≡ length (changesOf kind bytes)
-    counted = d .counted ∙ zero-add _ ∙ ap (λ (x : List ℕ). length (changes bytes x)) part-is
+  pub words-fit : Fits w64 (count * 3)
+  words-fit = record { fits = omega (arith, counted, few-changes 0 bytes new, z .0) }
 
-    pub words-fit : length bytes ≤ data-limit → Fits w64 (count * 3)
-    words-fit n = record { fits = omega (arith, counted, few-changes 0 bytes (mended kind bytes)) }
+module _ (bytes new list : List ℕ) (z : (length bytes ≤ data-limit) × (length new ≡ length bytes)) (none : List ℕ) (count : ℕ) (d : Lists 0 (changes bytes new) (take 0 list) count none) where
+  -- no word was written
+  still : none ++ drop 0 list ≡ list
+  still = ap (λ (x : List ℕ). x ++ drop 0 list) (d .filled ∙ sym (sets-out [] 0 (changeWords (changes bytes new)) (omega arith)))
+
+  pub changed-none : length list < count * 3 → Changed bytes new list NoRoom bytes (none ++ drop 0 list)
+  changed-none s =
+      let e = lt-leb _ _ (rw (words-are bytes new z (take 0 list) none count d) at s) in
+      record { answered = sym (simp e); becomes = sym (simp e); listed = still ∙ sym (simp e) }
+
+  pub changed-all : count * 3 ≤ length list → (list′ bytes′ : List ℕ) (count′ : ℕ) → Lists 0 (changes bytes new) (none ++ drop 0 list) count′ list′ → bytes′ ≡ sets bytes 0 new → Changed bytes new list (Mended count) bytes′ list′
+  changed-all s list′ bytes′ count′ t q =
+      let cs = changes bytes new in
+      let room : length (changeWords cs) ≤ length list = rw (words-are bytes new z (take 0 list) none count d) at s in
+      let e = le-leb (length (changeWords cs)) (length list) room in
+      let whole : bytes′ ≡ new =
+      filled-whole new bytes bytes′ (omega (arith, z .1)) q
+      ∙ ap (λ (x : List ℕ). new ++ x) (drop-of-length-le bytes {i = length new} (omega (arith, z .1)))
+      ∙ append-nil new
+      in
+      record {
+        answered = ap Mended (counted bytes new z (take 0 list) none count d) ∙ sym (simp e);
+        becomes = whole ∙ sym (simp e);
+        listed = filled-whole (changeWords cs) list list′ room (t .filled ∙ rw still) ∙ sym (simp e);
+      }
+
+-- new is the mended data, from the start of a copy
+module _ (kind : Kind) (bytes copy : List ℕ) (f : take (length bytes) copy ≡ mended kind bytes) (new : List ℕ) (g : new ≡ take (length bytes) (drop 0 copy)) where
+  new-is : new ≡ mended kind bytes
+  new-is = g ∙ f
+
+  pub part-size : length new ≡ length bytes
+  part-size = rw new-is (length-mended kind bytes)
 
 module _ (limit : ℕ) (kind : Kind) (bytes list : List ℕ) where
   mends-by : (x : Mending) (bytes′ list′ : List ℕ) → mending limit kind bytes (length list) ≡ x
@@ -110,40 +141,23 @@ module _ (limit : ℕ) (kind : Kind) (bytes list : List ℕ) where
     mends-long l =
         mends-by WrongSize bytes list (simp (ne-eqb _ _ z, lt-leb _ _ l)) refl refl (λ count e. let k : _≡_ {A = ℕ} 0 1 = cc in absurd (omega arith))
 
-    module _ (l : length bytes ≤ limit) (copy : List ℕ) (f : take (length bytes) copy ≡ mended kind bytes) (part : List ℕ) (g : part ≡ take (length bytes) (drop 0 copy))
-        (none : List ℕ) (count : ℕ) (d : Lists 0 (changes bytes part) (take 0 list) count none) where
-      count-is : count ≡ length (changesOf kind bytes)
-      count-is = counted kind bytes copy f part g (take 0 list) none count d
-
-      words-are : count * 3 ≡ length (changeWords (changesOf kind bytes))
-      words-are = ap (λ (n : ℕ). n * 3) count-is ∙ sym (words-length (changesOf kind bytes))
-
-      -- counted into no room, the changes leave the list as it was
-      still : none ++ drop 0 list ≡ list
-      still = ap (λ (x : List ℕ). x ++ drop 0 list) (d .filled ∙ sym (sets-out [] 0 (changeWords (changes bytes part)) (omega arith)))
-
-      pub mends-short : length list < count * 3 → Mends limit kind bytes list NoRoom bytes (none ++ drop 0 list)
+    -- new is the mended data, from the start of a copy, and the data becomes it
+    module _ (l : length bytes ≤ limit) (copy : List ℕ) (f : take (length bytes) copy ≡ mended kind bytes) (new : List ℕ) (g : new ≡ take (length bytes) (drop 0 copy)) where
+      by-room : (b : Bool) → leb (length (changeWords (changesOf kind bytes))) (length list) ≡ b → (answer : Mending) (bytes′ list′ : List ℕ) → Changed bytes (mended kind bytes) list answer bytes′ list′ → Mends limit kind bytes list answer bytes′ list′
       unfolding mending
-      mends-short s =
-          mends-by NoRoom bytes (none ++ drop 0 list) (simp (ne-eqb _ _ z, le-leb _ _ l, lt-leb _ _ (rw words-are at s))) refl still
-          (λ n q. let k : _≡_ {A = ℕ} 0 1 = cc in absurd (omega arith))
+      by-room true e answer bytes′ list′ c =
+          let a : answer ≡ Mended (length (changesOf kind bytes)) = c .answered ∙ simp e in
+          let w : bytes′ ≡ mended kind bytes = c .becomes ∙ simp e in
+          rw a
+          (mends-by (Mended (length (changesOf kind bytes))) bytes′ list′ (simp (ne-eqb _ _ z, le-leb _ _ l, e)) w (c .listed ∙ simp e) (λ n _. rw w (saves kind bytes (omega arith))))
+      by-room false e answer bytes′ list′ c =
+          let a : answer ≡ NoRoom = c .answered ∙ simp e in
+          rw a
+          (mends-by NoRoom bytes′ list′ (simp (ne-eqb _ _ z, le-leb _ _ l, e)) (c .becomes ∙ simp e) (c .listed ∙ simp e) (λ n q. let k : _≡_ {A = ℕ} 0 1 = cc in absurd (omega arith)))
 
-      answer-is : count * 3 ≤ length list → mending limit kind bytes (length list) ≡ Mended count
-      unfolding mending
-      answer-is s = rw count-is (simp (ne-eqb _ _ z, le-leb _ _ l, le-leb _ _ (rw words-are at s)))
-
-      pub mends-all : count * 3 ≤ length list → (list′ bytes′ : List ℕ) (count′ : ℕ) → Lists 0 (changes bytes part) (none ++ drop 0 list) count′ list′ → bytes′ ≡ sets bytes 0 part → Mends limit kind bytes list (Mended count) bytes′ list′
-      mends-all s list′ bytes′ count′ t q =
-          let whole : bytes′ ≡ mended kind bytes =
-          filled-whole part bytes bytes′ (omega (arith, part-size kind bytes copy f part g)) q
-          ∙ ap (λ (x : List ℕ). part ++ x) (drop-of-length-le bytes {i = length part} (omega (arith, part-size kind bytes copy f part g)))
-          ∙ append-nil part ∙ part-is kind bytes copy f part g
-          in
-          let cs = changesOf kind bytes in
-          let room : length (changeWords cs) ≤ length list = rw words-are at s in
-          mends-by (Mended count) bytes′ list′ (answer-is s) whole
-          (filled-whole (changeWords cs) list list′ room (t .filled ∙ rw (still, part-is kind bytes copy f part g)))
-          (λ n _. rw whole (saves kind bytes (omega arith)))
+      pub mends-changed : (answer : Mending) (bytes′ list′ : List ℕ) → Changed bytes new list answer bytes′ list′ → Mends limit kind bytes list answer bytes′ list′
+      mends-changed answer bytes′ list′ c =
+          by-room _ refl answer bytes′ list′ (subst (λ (x : List ℕ). Changed bytes x list answer bytes′ list′) (new-is kind bytes copy f new g) c)
 
 pub mended-within : (limit : ℕ) (kind : Kind) (bytes : List ℕ) (room : ℕ) → MendedWithin limit (mending limit kind bytes room)
 unfolding mending

@@ -24,12 +24,7 @@ use Rattle.engine_base.proofs.Picks.{by-test}
 use Rattle.metroid_format.proofs.command.Laws.{Stands, is-end, is-end-loop, is-begin, is-length, is-note, found, stands, next-after, next-within}
 use Rattle.metroid_format.proofs.words.Laws.{straight-next}
 use Rattle.metroid_format.proofs.words.RoundTrip.{not-ended}
-use Rattle.metroid_format.proofs.mend.Laws.{Unfit, past, lone, behind, unfit, in-data, mended-next}
-
-past-near : {bytes : List ℕ} {at number offset : ℕ} → Unfit bytes at number offset → number ≡ past-data → length bytes ≤ at + 2
-past-near (past offset h i) z = omega arith
-past-near (lone number y h) z = absurd (y z)
-past-near (behind l s h e) z = absurd (omega arith)
+use Rattle.metroid_format.proofs.mend.Laws.{Unfit, past, lone, behind, unfit, past-there, in-data, mended-next}
 
 -- where a command stands, it stands in data with the same bytes up to the one behind it
 module _ (kind : Kind) (bytes other : List ℕ) (size : length other ≡ length bytes) (at : ℕ) where
@@ -233,7 +228,7 @@ module _ (kind : Kind) (left at : ℕ) (bytes : List ℕ) (h : at < length bytes
   mends-by (Refused number offset) e =
       let v = restOf kind in
       by-test {A = List ℕ} (Reading kind at bytes) (eqb number past-data)
-      (λ y. closed-mends kind at bytes bytes refl refl h (past-near (unfit kind bytes at e) (eqb-true number past-data y)))
+      (λ y. closed-mends kind at bytes bytes refl refl h (omega (arith, past-there kind bytes at e (eqb-true number past-data y))))
       (λ y. let z = eqb-false number past-data y in
       let w = in-data kind bytes at e z in
       onward-by (offset + 1) (set bytes offset v)

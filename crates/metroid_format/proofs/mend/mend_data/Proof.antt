@@ -1,7 +1,7 @@
 use Prim.Native.Nat.{_-_}
 use borrow.Author.Needs.{needs}
 use lib.ListN.{length}
-use Rattle.metroid_format.proofs.mend.Laws.{Midway, midway-none, midway-falls, midway-more, midway-all}
+use Rattle.metroid_format.proofs.mend.Laws.{Midway, midway-none, midway-past, midway-end, midway-closed, midway-falls, midway-more}
 use Rattle.metroid_format.proofs.mend.mend_data.Statement.{statement}
 use Rattle.metroid_format.proofs.mend.mend_data.Tie as tie
 
@@ -18,8 +18,14 @@ mend-data-spec =
     Inv-loop
     μ-loop
     (λ c. midway-none _ _)
+    (λ c. search needs)
+    (λ c. search needs)
+    (λ c. search midway-end depth 10)
     (λ c κs. search needs)
+    (λ c κs. search needs)
+    (λ c. search needs)
+    (λ c. search midway-closed depth 10)
     (λ c. search midway-falls depth 10)
     (λ c. search midway-more depth 10)
     (λ c. search needs)
-    (λ c. search midway-all depth 10))
+    (λ c. search midway-past depth 10))
