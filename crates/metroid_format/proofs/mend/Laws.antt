@@ -3,13 +3,13 @@ use Prim.Native.Nat.{ℕ, zero, suc, _+_, _-_, _*_, _/_, _%_, _^_, _≤_, _<_}
 use mathlib.Core.Bool.{false}
 use mathlib.Core.List.{List, [], _∷_, _++_}
 use mathlib.Core.Path.{_≡_, refl, sym, ap, subst, _∙_}
+use native.Mathlib.Nat.{zero-add}
+use native.Mathlib.Numerals.{add-one}
 use native.Mathlib.Omega.{arith}
 use borrow.Author.Tests.{eq-eqb, ne-eqb, eqb-true, leb-true, leb-false, le-leb, lt-leb}
 use mir.Syntax.{w64}
 use mir.Val.{Fits}
 use lib.Dec.{leb, eqb}
-use native.Mathlib.Nat.{zero-add}
-use native.Mathlib.Numerals.{add-one}
 use lib.ListN.{length, getD, set, drop, drop-of-length-le, length-set, length-append}
 use lib.Seq.{drop-cons}
 use Rattle.engine_base.specs.Refusal.{past-data, invalid-command, invalid-note}
@@ -82,12 +82,6 @@ module _ (kind : Kind) (bytes : List ℕ) (at : ℕ) where
 
   pub in-data : {number offset : ℕ} → commandAt kind bytes at ≡ Refused number offset → (number ≡ past-data → ⊥) → (at ≤ offset) × (offset < length bytes)
   in-data e z = in-data-by (unfit e) z
-
-pub length-closed : (kind : Kind) (at : ℕ) (bytes : List ℕ) → length (closed kind at bytes) ≡ length bytes
-unfolding closed
-length-closed kind at bytes =
-    let ended = length-set bytes (length bytes - 1) 0x00 in
-    by-test {A = List ℕ} (λ (x : List ℕ). length x ≡ length bytes) (eqb (at + 2) (length bytes)) (λ _. length-set (set bytes (length bytes - 1) 0x00) at (restOf kind) ∙ ended) (λ _. ended)
 
 -- r is what `rest_of` answers
 pub closes : (kind : Kind) (at : ℕ) (bytes : List ℕ) (r : ℕ) → r ≡ restOf kind → at + 2 ≡ length bytes → set (set bytes (length bytes - 1) 0x00) at r ≡ closed kind at bytes

@@ -77,7 +77,7 @@ module _ (kind : Kind) (bytes array copied : List ℕ) (room : length bytes ≤ 
     pub array-size : length (m ++ drop (length bytes) copied) ≡ length array
     array-size = simp (length-append, length-drop, same-size, e, length-sets) (omega arith)
 
--- the changes counted into no room, and then listed
+-- the changes of data to others of its size, as they are counted
 module _ (bytes new : List ℕ) (z : (length bytes ≤ data-limit) × (length new ≡ length bytes)) (scratch used : List ℕ) (count : ℕ) (d : Lists 0 (changes bytes new) scratch count used) where
   counted : count ≡ length (changes bytes new)
   counted = d .counted ∙ zero-add _
@@ -89,7 +89,7 @@ module _ (bytes new : List ℕ) (z : (length bytes ≤ data-limit) × (length ne
   words-fit = record { fits = omega (arith, counted, few-changes 0 bytes new, z .0) }
 
 module _ (bytes new list : List ℕ) (z : (length bytes ≤ data-limit) × (length new ≡ length bytes)) (none : List ℕ) (count : ℕ) (d : Lists 0 (changes bytes new) (take 0 list) count none) where
-  -- no word was written
+  -- counted into no room, the changes leave the list as it was
   still : none ++ drop 0 list ≡ list
   still = ap (λ (x : List ℕ). x ++ drop 0 list) (d .filled ∙ sym (sets-out [] 0 (changeWords (changes bytes new)) (omega arith)))
 
@@ -162,7 +162,6 @@ module _ (limit : ℕ) (kind : Kind) (bytes list : List ℕ) where
 pub mended-within : (limit : ℕ) (kind : Kind) (bytes : List ℕ) (room : ℕ) → MendedWithin limit (mending limit kind bytes room)
 unfolding mending
 mended-within limit kind bytes room =
-    let n = length (changesOf kind bytes) in
     by-test (MendedWithin limit) (eqb (length bytes) 0) (λ _. tt)
     (λ _. by-test (MendedWithin limit) (leb (length bytes) limit)
     (λ l. by-test (MendedWithin limit) (leb (length (changeWords (changesOf kind bytes))) room) (λ _. omega (arith, leb-true (length bytes) limit l, few-changes 0 bytes (mended kind bytes))) (λ _. tt))
