@@ -11,7 +11,7 @@ use lib.Dec.{leb, eqb}
 use lib.ListN.{length, getD, take, drop}
 use lib.Seq.{drop-cons}
 use Rattle.engine_base.specs.Bytes.{wordAt}
-use Rattle.engine_base.specs.Refusal.{past-data, FaultWithin}
+use Rattle.engine_base.specs.Refusal.{past-data, invalid-command, invalid-note, FaultWithin}
 use Rattle.metroid_format.specs.Command.{commandAt, commandOf, noteAfter, isKey, isPreset, isNote, wordOf, isEnd}
 use Rattle.metroid_format.specs.declared.command.Kind.{Kind}
 use Rattle.metroid_format.specs.declared.command.Kind.the-variants.{Melodic, Noise}
@@ -36,10 +36,21 @@ fault-further limit more number at h (low, high, w) = (low, high, omega arith)
 abbrev pub Wants : List ℕ → ℕ → ℕ → Type 0
 Wants bytes number at = number ≡ past-data → length bytes ≤ at
 
--- and a refusal names the offset, or one in the data or at its end
+-- what is refused where a command stands: a byte past the data, the command's own, or the one behind BL
+pub data Unfit (bytes : List ℕ) (at : ℕ) : ℕ → ℕ → Type 0 where
+  past : (offset : ℕ) → length bytes ≤ offset → offset ≤ max at (length bytes) → offset ≤ at + 1 → Unfit bytes at past-data offset
+  lone : (number : ℕ) → invalid-command ≤ number → number < past-data → at < length bytes → Unfit bytes at number at
+  behind : (l : ℕ) → l < 16 → at + 1 < length bytes → getD bytes at 0 ≡ 0xb0 + l → Unfit bytes at invalid-note (at + 1)
+
 abbrev Right : Kind → List ℕ → ℕ → Decoded → Type 0
 Right kind bytes at (Found c next) = Stands kind bytes at c next
-Right kind bytes at (Refused number offset) = FaultWithin (max at (length bytes)) number offset × Wants bytes number offset
+Right kind bytes at (Refused number offset) = Unfit bytes at number offset
+
+-- it is at the offset, or at one in the data or at its end
+near : {bytes : List ℕ} {at number offset : ℕ} → Unfit bytes at number offset → FaultWithin (max at (length bytes)) number offset × Wants bytes number offset
+near (past offset h m i) = ((omega arith, omega arith, m), λ _. h)
+near (lone number low high h) = ((low, omega arith, omega arith), λ z. absurd (omega arith))
+near (behind l s h e) = ((omega arith, omega arith, omega arith), λ z. absurd (omega arith))
 
 pub note-small : (kind : Kind) (b : ℕ) → isNote kind b ≡ true → b < 0x80
 unfolding isKey isPreset
@@ -99,15 +110,15 @@ module _ (kind : Kind) (bytes : List ℕ) (at : ℕ) where
   after-right : at < length bytes → getD bytes at 0 / 16 ≡ 0x0b → Right kind bytes at (noteAfter kind bytes (at + 1) (getD bytes at 0 % 16))
   unfolding noteAfter
   after-right h q =
-      by-test (Right kind bytes at) (leb (length bytes) (at + 1)) (λ n. ((omega arith, omega arith, omega arith), λ _. leb-true _ _ n))
+      by-test (Right kind bytes at) (leb (length bytes) (at + 1)) (λ n. let l = leb-true (length bytes) (at + 1) n in past (at + 1) l (omega arith) (omega arith))
       (λ n. by-test (Right kind bytes at) (isNote kind (getD bytes (at + 1) 0))
       (λ y. is-length (getD bytes at 0 % 16) (getD bytes (at + 1) 0) (omega arith) y (leb-false _ _ n) (omega arith) refl)
-      (λ _. ((omega arith, omega arith, omega arith), λ z. absurd (omega arith))))
+      (λ _. behind (getD bytes at 0 % 16) (omega arith) (leb-false _ _ n) (omega arith)))
 
   command-right : Right kind bytes at (commandAt kind bytes at)
   unfolding commandAt commandOf
   command-right =
-      by-test (Right kind bytes at) (leb (length bytes) at) (λ n. ((omega arith, omega arith, omega arith), λ _. leb-true _ _ n))
+      by-test (Right kind bytes at) (leb (length bytes) at) (λ n. past at (leb-true _ _ n) (omega arith) (omega arith))
       (λ n. let h = leb-false (length bytes) at n in
       by-test (Right kind bytes at) (eqb (getD bytes at 0) 0x00) (λ e. is-end h (eqb-true _ _ e))
       (λ e0. let z = eqb-false (getD bytes at 0) 0x00 e0 in
@@ -116,17 +127,20 @@ module _ (kind : Kind) (bytes : List ℕ) (at : ℕ) where
       by-test (Right kind bytes at) (eqb (getD bytes at 0 / 64) 3)
       (λ e. let q = eqb-true (getD bytes at 0 / 64) 3 e in is-begin (getD bytes at 0 % 64) (omega arith) h (omega arith))
       (λ e2. by-test (Right kind bytes at) (eqb (getD bytes at 0 / 16) 0x0b) (λ e. after-right h (eqb-true _ _ e))
-      (λ e3. by-test (Right kind bytes at) (leb 0x80 (getD bytes at 0)) (λ _. ((omega arith, omega arith, omega arith), λ z. absurd (omega arith)))
+      (λ e3. by-test (Right kind bytes at) (leb 0x80 (getD bytes at 0)) (λ _. lone invalid-command (omega arith) (omega arith) h)
       (λ e4. let s = leb-false 0x80 (getD bytes at 0) e4 in
       by-test (Right kind bytes at) (isNote kind (getD bytes at 0))
       (λ y. is-note (getD bytes at 0) (omega arith) s y h refl)
-      (λ _. ((omega arith, omega arith, omega arith), λ z. absurd (omega arith)))))))))
+      (λ _. lone invalid-note (omega arith) (omega arith) h)))))))
 
   pub found : {c : Command} {next : ℕ} → commandAt kind bytes at ≡ Found c next → Stands kind bytes at c next
   found e = subst (Right kind bytes at) e command-right
 
+  pub unfit : {number offset : ℕ} → commandAt kind bytes at ≡ Refused number offset → Unfit bytes at number offset
+  unfit e = subst (Right kind bytes at) e command-right
+
   pub refused-near : {number offset : ℕ} → commandAt kind bytes at ≡ Refused number offset → FaultWithin (max at (length bytes)) number offset × Wants bytes number offset
-  refused-near e = subst (Right kind bytes at) e command-right
+  refused-near e = near (unfit e)
 
   pub stands : {c : Command} {next : ℕ} → Stands kind bytes at c next → commandAt kind bytes at ≡ Found c next
   unfolding commandAt commandOf noteAfter

@@ -1,19 +1,19 @@
 -- Mending a command at a time, and listing a change at a time.
-use Prim.Native.Nat.{ℕ, zero, suc, _+_, _-_, _*_, _/_, _%_, _^_, _≤_, _<_}
+use Prim.Native.Nat.{ℕ, zero, suc, _+_, _-_, _*_, _^_, _≤_, _<_}
 use mathlib.Core.Bool.{false}
 use mathlib.Core.List.{List, [], _∷_, _++_}
-use mathlib.Core.Path.{_≡_, refl, sym, ap, subst, _∙_}
+use mathlib.Core.Path.{_≡_, refl, sym, ap, _∙_}
 use native.Mathlib.Nat.{zero-add}
 use native.Mathlib.Numerals.{add-one}
 use native.Mathlib.Omega.{arith}
-use borrow.Author.Tests.{eq-eqb, ne-eqb, eqb-true, leb-true, leb-false, le-leb, lt-leb}
+use borrow.Author.Tests.{eq-eqb, ne-eqb, le-leb, lt-leb}
 use mir.Syntax.{w64}
 use mir.Val.{Fits}
-use lib.Dec.{leb, eqb}
+use lib.Dec.{eqb}
 use lib.ListN.{length, getD, set, drop, drop-of-length-le, length-set, length-append}
 use lib.Seq.{drop-cons}
-use Rattle.engine_base.specs.Refusal.{past-data, invalid-command, invalid-note}
-use Rattle.metroid_format.specs.Command.{commandAt, commandOf, noteAfter, isNote, isEnd}
+use Rattle.engine_base.specs.Refusal.{past-data}
+use Rattle.metroid_format.specs.Command.{commandAt, isEnd}
 use Rattle.metroid_format.specs.Mend.{restOf, closed, mendedBy, mendedFrom, mended, Passes, Change, changeAt, changesFrom, changes, changeWords, Lists}
 use Rattle.metroid_format.specs.declared.command.Kind.{Kind}
 use Rattle.metroid_format.specs.declared.command.Command.{Command}
@@ -21,7 +21,7 @@ use Rattle.metroid_format.specs.declared.command.Decoded.{Decoded}
 use Rattle.metroid_format.specs.declared.command.Decoded.the-variants.{Found, Refused}
 use Rattle.engine_base.proofs.Picks.{by-test}
 use Rattle.engine_base.proofs.Buffers.{Written, written-none, written-more}
-use Rattle.metroid_format.proofs.command.Laws.{Stands, is-end, is-end-loop, is-begin, is-length, is-note, found, stands, next-after}
+use Rattle.metroid_format.proofs.command.Laws.{Stands, is-end, is-end-loop, is-begin, is-length, is-note, Unfit, past, lone, behind, found, unfit, stands, next-after}
 
 not-0 : (b n : ℕ) → b ≡ n → 0 < n → eqb b 0 ≡ false
 not-0 b n e h = ne-eqb b 0 (λ (z : b ≡ 0). omega arith)
@@ -34,54 +34,22 @@ end-byte (is-begin n s h e) = sym (not-0 _ (0xc0 + n) e (omega arith))
 end-byte (is-length l note s y h e g) = sym (not-0 _ (0xb0 + l) e (omega arith))
 end-byte (is-note b p s y h e) = sym (not-0 _ b e p)
 
--- what is refused where a command stands: a byte past the data, the command's own, or the one behind BL
-pub data Unfit (bytes : List ℕ) (at : ℕ) : ℕ → ℕ → Type 0 where
-  past : (offset : ℕ) → length bytes ≤ offset → offset ≤ at + 1 → Unfit bytes at past-data offset
-  lone : (number : ℕ) → (number ≡ past-data → ⊥) → at < length bytes → Unfit bytes at number at
-  behind : (l : ℕ) → l < 16 → at + 1 < length bytes → getD bytes at 0 ≡ 0xb0 + l → Unfit bytes at invalid-note (at + 1)
-
-abbrev Refuses : List ℕ → ℕ → Decoded → Type 0
-Refuses bytes at (Found c next) = Unit {0}
-Refuses bytes at (Refused number offset) = Unfit bytes at number offset
-
 module _ (kind : Kind) (bytes : List ℕ) (at : ℕ) where
-  after-refuses : at < length bytes → getD bytes at 0 / 16 ≡ 0x0b → Refuses bytes at (noteAfter kind bytes (at + 1) (getD bytes at 0 % 16))
-  unfolding noteAfter
-  after-refuses h q =
-      by-test (Refuses bytes at) (leb (length bytes) (at + 1)) (λ n. past _ (leb-true _ _ n) (omega arith))
-      (λ n. by-test (Refuses bytes at) (isNote kind (getD bytes (at + 1) 0)) (λ _. tt)
-      (λ _. behind (getD bytes at 0 % 16) (omega arith) (leb-false _ _ n) (omega arith)))
-
-  refuses : Refuses bytes at (commandAt kind bytes at)
-  unfolding commandAt commandOf
-  refuses =
-      by-test (Refuses bytes at) (leb (length bytes) at) (λ n. past _ (leb-true _ _ n) (omega arith))
-      (λ n. let h = leb-false (length bytes) at n in
-      by-test (Refuses bytes at) (eqb (getD bytes at 0) 0x00) (λ _. tt)
-      (λ _. by-test (Refuses bytes at) (eqb (getD bytes at 0) 0xff) (λ _. tt)
-      (λ _. by-test (Refuses bytes at) (eqb (getD bytes at 0 / 64) 3) (λ _. tt)
-      (λ _. by-test (Refuses bytes at) (eqb (getD bytes at 0 / 16) 0x0b) (λ e. after-refuses h (eqb-true _ _ e))
-      (λ _. by-test (Refuses bytes at) (leb 0x80 (getD bytes at 0)) (λ _. lone invalid-command (λ z. omega arith) h)
-      (λ _. by-test (Refuses bytes at) (isNote kind (getD bytes at 0)) (λ _. tt) (λ _. lone invalid-note (λ z. omega arith) h)))))))
-
-  pub unfit : {number offset : ℕ} → commandAt kind bytes at ≡ Refused number offset → Unfit bytes at number offset
-  unfit e = subst (Refuses bytes at) e refuses
-
   past-by : {number offset : ℕ} → Unfit bytes at number offset → number ≡ past-data → (length bytes ≤ offset) × (offset ≤ at + 1)
-  past-by (past offset h i) z = (h, i)
-  past-by (lone number y h) z = absurd (y z)
+  past-by (past offset h m i) z = (h, i)
+  past-by (lone number low high h) z = absurd (omega arith)
   past-by (behind l s h e) z = absurd (omega arith)
 
   pub past-there : {number offset : ℕ} → commandAt kind bytes at ≡ Refused number offset → number ≡ past-data → (length bytes ≤ offset) × (offset ≤ at + 1)
-  past-there e z = past-by (unfit e) z
+  past-there e z = past-by (unfit kind bytes at e) z
 
   in-data-by : {number offset : ℕ} → Unfit bytes at number offset → (number ≡ past-data → ⊥) → (at ≤ offset) × (offset < length bytes)
-  in-data-by (past offset h i) z = absurd (z refl)
-  in-data-by (lone number y h) z = (omega arith, h)
+  in-data-by (past offset h m i) z = absurd (z refl)
+  in-data-by (lone number low high h) z = (omega arith, h)
   in-data-by (behind l s h e) z = (omega arith, h)
 
   pub in-data : {number offset : ℕ} → commandAt kind bytes at ≡ Refused number offset → (number ≡ past-data → ⊥) → (at ≤ offset) × (offset < length bytes)
-  in-data e z = in-data-by (unfit e) z
+  in-data e z = in-data-by (unfit kind bytes at e) z
 
 -- r is what `rest_of` answers
 pub closes : (kind : Kind) (at : ℕ) (bytes : List ℕ) (r : ℕ) → r ≡ restOf kind → at + 2 ≡ length bytes → set (set bytes (length bytes - 1) 0x00) at r ≡ closed kind at bytes

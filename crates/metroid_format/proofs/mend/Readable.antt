@@ -21,10 +21,10 @@ use Rattle.metroid_format.specs.declared.command.Decoded.{Decoded}
 use Rattle.metroid_format.specs.declared.command.Decoded.the-variants.{Found, Refused}
 use Rattle.metroid_format.specs.declared.command.Finish.the-variants.{End as Ended}
 use Rattle.engine_base.proofs.Picks.{by-test}
-use Rattle.metroid_format.proofs.command.Laws.{Stands, is-end, is-end-loop, is-begin, is-length, is-note, found, stands, next-after, next-within}
+use Rattle.metroid_format.proofs.command.Laws.{Stands, is-end, is-end-loop, is-begin, is-length, is-note, Unfit, past, lone, behind, found, unfit, stands, next-after, next-within}
 use Rattle.metroid_format.proofs.words.Laws.{straight-next}
 use Rattle.metroid_format.proofs.words.RoundTrip.{not-ended}
-use Rattle.metroid_format.proofs.mend.Laws.{Unfit, past, lone, behind, unfit, past-there, in-data, mended-next}
+use Rattle.metroid_format.proofs.mend.Laws.{past-there, in-data, mended-next}
 
 -- where a command stands, it stands in data with the same bytes up to the one behind it
 module _ (kind : Kind) (bytes other : List ℕ) (size : length other ≡ length bytes) (at : ℕ) where
@@ -61,8 +61,8 @@ record Passed (kind : Kind) (bytes : List ℕ) (at next : ℕ) : Type 0 where
   no-end : isEnd command ≡ false
 
 passed-by : (kind : Kind) (bytes : List ℕ) (at : ℕ) {number offset : ℕ} → Unfit bytes at number offset → (number ≡ past-data → ⊥) → Passed kind (set bytes offset (restOf kind)) at (offset + 1)
-passed-by kind bytes at (past offset h i) z = absurd (z refl)
-passed-by kind bytes at (lone number y h) z =
+passed-by kind bytes at (past offset h m i) z = absurd (z refl)
+passed-by kind bytes at (lone number low high h) z =
     let i : at < length (set bytes at (restOf kind)) = omega (arith, length-set bytes at (restOf kind)) in
     record {
       command = Note (restOf kind);
