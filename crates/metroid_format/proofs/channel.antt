@@ -1,4 +1,4 @@
-pub mod Sizes
+pub mod Ruled
 pub mod ReadSteps
 pub mod Stepped
 pub mod ReadBound

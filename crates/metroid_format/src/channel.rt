@@ -1,22 +1,21 @@
 // One channel: its cursor, what one command does to it, and reading until a note.
 use crate::bank;
 use crate::command;
-use crate::command::Command;
 use crate::command::DATA_LIMIT;
-use crate::command::Decoded;
 use crate::command::Kind;
+use crate::command::Rule;
 use engine_base::address;
 use engine_base::bytes;
-use engine_base::field;
 use engine_base::loops;
 use engine_base::refusal;
 use engine_base::time::Frames;
+ghost use Prim.Native.Nat.{_+_, _<_};
 ghost use mathlib.Core.Path.{_≡_};
-ghost use lib.ListN.{take};
+ghost use lib.ListN.{length, getD, take};
 ghost use Rattle.engine_base.specs.Address.{addressOf};
 ghost use Rattle.engine_base.specs.Told.{Answers};
 ghost use Rattle.metroid_format.specs.Command.{data-limit};
-ghost use Rattle.metroid_format.specs.Channel.{sourceOf, lengthFault, addressAt, loopEnd, playedOf, playedAt, stepOf, readUntil, toldUntil, Limited};
+ghost use Rattle.metroid_format.specs.Channel.{sourceOf, lengthFault, addressAt, loopEnd, playedAt, stepOf, readUntil, toldUntil, Limited};
 
 // More commands than reading until a note can take.
 const FUEL: u32 = (DATA_LIMIT / 2 * 257 + 2) as u32;
@@ -64,14 +63,12 @@ pub struct Until {
     pub cursor: Cursor,
 }
 
-// 12 or 13 of a BL, 0 of one that gives a length and of any other byte.
-fn length_fault(lengths: &[u8], window: u8, b: u8) -> u32
-    ensures { λ r. ⌜ r ≡ lengthFault (now (lengths .entry)) window b ⌝ }
+// 12 or 13 of BL, 0 where it gives a length.
+fn length_fault(lengths: &[u8], window: u8, l: u8) -> u32
+    requires { ⌜ l < 16 ⌝ }
+    ensures { λ r. ⌜ r ≡ lengthFault (now (lengths .entry)) window (0xb0 + l) ⌝ }
 {
-    if b >> 4 != 0x0b {
-        return 0;
-    }
-    let entry = window as usize + field::low4(b) as usize;
+    let entry = window as usize + l as usize;
     if bank::LENGTHS_SIZE <= entry {
         return refusal::PAST_LENGTHS;
     }
@@ -88,37 +85,35 @@ pub(crate) fn address_at(base: u16, at: u16) -> u32
     address::BANK_START as u32 + base as u32 + at as u32
 }
 
-// What a command at an offset does, given the offset after it and the current length.
-fn played_by(
+// What the BL at an offset does: it tests 12, 13, then its next byte 15, 11.
+fn length_played(
+    kind: Kind,
+    bytes: &[u8],
     lengths: &[u8],
     window: u8,
     base: u16,
     at: u16,
-    length: Frames,
-    command: Command,
-    next: u16,
+    l: u8,
 ) -> Played
-    ensures { λ r. ⌜ r ≡ playedOf (now (lengths .entry)) window (addressOf base) at length command next ⌝ }
+    requires { ⌜ Limited (now bytes) × (at < length (now bytes)) × (l < 16) × (getD (now bytes) at 0 ≡ 0xb0 + l) ⌝ }
+    ensures { λ r. ⌜ ((current : Frames) → r ≡
+        playedAt (sourceOf kind (now (bytes .entry)) (now (lengths .entry)) window (addressOf base)) at current) ⌝ }
 {
-    match command {
-        Command::End => Played::End,
-        Command::EndLoop => Played::EndLoop(next),
-        Command::BeginLoop(n) => Played::BeginLoop(loops::counter_of(n), next),
-        Command::Length(l, note) => {
-            let count = bytes::byte(lengths, window as usize + l as usize);
-            Played::Length(note, Frames { count }, next)
-        }
-        Command::Note(b) => {
-            if length.count == 0 {
-                Played::Refused(refusal::NO_LENGTH, at, address_at(base, at))
-            } else {
-                Played::Note(b, next)
-            }
-        }
+    let fault = length_fault(lengths, window, l);
+    if fault != 0 {
+        return Played::Refused(fault, at, address_at(base, at));
     }
+    let next = at + 1;
+    let unfit = command::note_fault(kind, bytes, next as usize);
+    if unfit != 0 {
+        return Played::Refused(unfit, next, address_at(base, next));
+    }
+    let note = bytes::byte(bytes, next as usize);
+    let count = bytes::byte(lengths, window as usize + l as usize);
+    Played::Length(note, Frames { count }, next + 1)
 }
 
-// What the command at an offset does: BL tests 12, 13, then its next byte; a lone note tests 11, then 14.
+// What the command at an offset does; a lone note tests 11, then 14.
 pub(crate) fn played_at(
     kind: Kind,
     bytes: &[u8],
@@ -132,19 +127,19 @@ pub(crate) fn played_at(
     ensures { λ r. ⌜ r ≡
         playedAt (sourceOf kind (now (bytes .entry)) (now (lengths .entry)) window (addressOf base)) at length ⌝ }
 {
-    let fault = length_fault(lengths, window, bytes::byte(bytes, at as usize));
-    if fault != 0 {
-        return Played::Refused(fault, at, address_at(base, at));
-    }
-    let decoded = command::command_at(kind, bytes, at as usize);
-    match decoded {
-        Decoded::Found(command, next) => {
-            played_by(lengths, window, base, at, length, command, next as u16)
+    match command::rule_at(kind, bytes, at as usize) {
+        Rule::End => Played::End,
+        Rule::EndLoop => Played::EndLoop(at + 1),
+        Rule::BeginLoop(n) => Played::BeginLoop(loops::counter_of(n), at + 1),
+        Rule::Length(l) => length_played(kind, bytes, lengths, window, base, at, l),
+        Rule::Note(b) => {
+            if length.count == 0 {
+                Played::Refused(refusal::NO_LENGTH, at, address_at(base, at))
+            } else {
+                Played::Note(b, at + 1)
+            }
         }
-        Decoded::Refused(number, place) => {
-            let place = place as u16;
-            Played::Refused(number, place, address_at(base, place))
-        }
+        Rule::Invalid(number) => Played::Refused(number, at, address_at(base, at)),
     }
 }
 

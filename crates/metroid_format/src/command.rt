@@ -1,8 +1,12 @@
 // The bytes of a channel, taken apart into commands.
 use engine_base::field;
 use engine_base::refusal;
+ghost use Prim.Native.Nat.{ℕ, _+_, _/_, _<_};
 ghost use mathlib.Core.Path.{_≡_};
-ghost use Rattle.metroid_format.specs.Command.{commandAt, isKey, isPreset, isNote, noteAfter, told};
+ghost use lib.Dec.{eqb};
+ghost use lib.ListN.{length, getD};
+ghost use Rattle.metroid_format.specs.Command.{commandAt, isKey, isPreset, isNote, noteAfter, isEnd, told};
+ghost use Rattle.engine_base.specs.Pick.{pick};
 ghost use Rattle.engine_base.specs.Told.{Answers};
 
 // The bytes of one channel's data.
@@ -25,6 +29,19 @@ pub enum Command {
     Note(u8),
 }
 
+// What a byte says where a command stands.
+pub(crate) enum Rule {
+    End,
+    EndLoop,
+    // n of 11nn nnnn
+    BeginLoop(u8),
+    // L of BL, whose note stands in the next byte
+    Length(u8),
+    Note(u8),
+    // the number of the refusal
+    Invalid(u32),
+}
+
 // How straight reading of channel data comes to a stop.
 pub enum Finish {
     End,
@@ -39,6 +56,7 @@ pub enum Decoded {
     Refused(u32, usize),
 }
 
+// 00 too, which is no end directly after BL.
 fn is_key(b: u8) -> bool
     ensures { λ r. ⌜ r ≡ isKey b ⌝ }
 {
@@ -74,48 +92,93 @@ pub fn is_note(kind: Kind, b: u8) -> bool
     }
 }
 
-// The note in the byte after BL, which is a key or preset whatever it is.
+// Document 01's list for the byte at an offset, where a command stands: the first rule that fits decides.
+pub(crate) fn rule_at(kind: Kind, bytes: &[u8], at: usize) -> Rule
+    ensures { λ r. ⌜ elim r as (λ _. Type 0) [
+      | Rule.End ↦ Decoded.Found Command.End (at + 1) ≡ commandAt kind (now (bytes .entry)) at
+      | Rule.EndLoop ↦ Decoded.Found Command.EndLoop (at + 1) ≡ commandAt kind (now (bytes .entry)) at
+      | Rule.BeginLoop n ↦ Decoded.Found (Command.BeginLoop n) (at + 1) ≡ commandAt kind (now (bytes .entry)) at
+      | Rule.Length l ↦ (at < length (now (bytes .entry))) × (l < 16) × (getD (now (bytes .entry)) at 0 ≡ 0xb0 + l)
+      | Rule.Note b ↦ Decoded.Found (Command.Note b) (at + 1) ≡ commandAt kind (now (bytes .entry)) at
+      | Rule.Invalid number ↦ (getD (now (bytes .entry)) at 0 / 16 ≡ 0x0b → ⊥) × (Decoded.Refused number at ≡ commandAt kind (now (bytes .entry)) at)
+    ] ⌝ }
+{
+    if bytes.len() <= at {
+        return Rule::Invalid(refusal::PAST_DATA);
+    }
+    let b = bytes[at];
+    if b == 0x00 {
+        return Rule::End;
+    }
+    if b == 0xff {
+        return Rule::EndLoop;
+    }
+    // 11nn nnnn
+    if b >> 6 == 0x03 {
+        return Rule::BeginLoop(field::low6(b));
+    }
+    // BL
+    if b >> 4 == 0x0b {
+        return Rule::Length(field::low4(b));
+    }
+    // melodic, noise
+    if is_note(kind, b) {
+        return Rule::Note(b);
+    }
+    // no rule fits
+    if 0x80 <= b {
+        return Rule::Invalid(refusal::INVALID_COMMAND);
+    }
+    Rule::Invalid(refusal::INVALID_NOTE)
+}
+
+// The byte after BL is a key or preset whatever it is: 15 or 11 where it isn't, else 0.
+pub(crate) fn note_fault(kind: Kind, bytes: &[u8], at: usize) -> u32
+    ensures { λ r. ⌜ ((l : ℕ) → pick (eqb r 0) (Decoded.Found (Command.Length l (getD (now (bytes .entry)) at 0)) (at + 1)) (Decoded.Refused r at) ≡
+        noteAfter kind (now (bytes .entry)) at l) ⌝ }
+{
+    if bytes.len() <= at {
+        return refusal::PAST_DATA;
+    }
+    if is_note(kind, bytes[at]) {
+        return 0;
+    }
+    refusal::INVALID_NOTE
+}
+
+// BL's command, with the note in the next byte.
 fn note_after(kind: Kind, bytes: &[u8], at: usize, length: u8) -> Decoded
     ensures { λ r. ⌜ r ≡ noteAfter kind (now (bytes .entry)) at length ⌝ }
 {
-    if bytes.len() <= at {
-        return Decoded::Refused(refusal::PAST_DATA, at);
+    let fault = note_fault(kind, bytes, at);
+    if fault != 0 {
+        return Decoded::Refused(fault, at);
     }
-    let b = bytes[at];
-    if is_note(kind, b) {
-        Decoded::Found(Command::Length(length, b), at + 1)
-    } else {
-        Decoded::Refused(refusal::INVALID_NOTE, at)
-    }
+    Decoded::Found(Command::Length(length, bytes[at]), at + 1)
 }
 
-// The command at an offset: the first rule that fits decides.
+// The command at an offset.
 pub(crate) fn command_at(kind: Kind, bytes: &[u8], at: usize) -> Decoded
     ensures { λ r. ⌜ Answers told r (commandAt kind (now (bytes .entry)) at) ⌝ }
 {
-    if bytes.len() <= at {
-        return Decoded::Refused(refusal::PAST_DATA, at);
+    match rule_at(kind, bytes, at) {
+        Rule::End => Decoded::Found(Command::End, at + 1),
+        Rule::EndLoop => Decoded::Found(Command::EndLoop, at + 1),
+        Rule::BeginLoop(n) => Decoded::Found(Command::BeginLoop(n), at + 1),
+        Rule::Length(l) => note_after(kind, bytes, at + 1, l),
+        Rule::Note(b) => Decoded::Found(Command::Note(b), at + 1),
+        Rule::Invalid(number) => Decoded::Refused(number, at),
     }
-    let b = bytes[at];
-    let next = at + 1;
-    if b == 0x00 {
-        return Decoded::Found(Command::End, next);
-    }
-    if b == 0xff {
-        return Decoded::Found(Command::EndLoop, next);
-    }
-    if b >> 6 == 0x03 {
-        return Decoded::Found(Command::BeginLoop(field::low6(b)), next);
-    }
-    if b >> 4 == 0x0b {
-        return note_after(kind, bytes, next, field::low4(b));
-    }
-    if 0x80 <= b {
-        return Decoded::Refused(refusal::INVALID_COMMAND, at);
-    }
-    if is_note(kind, b) {
-        Decoded::Found(Command::Note(b), next)
-    } else {
-        Decoded::Refused(refusal::INVALID_NOTE, at)
+}
+
+pub(crate) fn is_end(command: Command) -> bool
+    ensures { λ r. ⌜ r ≡ isEnd command ⌝ }
+{
+    match command {
+        Command::End => true,
+        Command::EndLoop => false,
+        Command::BeginLoop(_) => false,
+        Command::Length(_, _) => false,
+        Command::Note(_) => false,
     }
 }

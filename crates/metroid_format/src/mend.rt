@@ -6,17 +6,24 @@ use crate::command::Kind;
 use engine_base::buffer;
 use engine_base::bytes;
 use engine_base::refusal;
-ghost use Prim.Native.Nat.{_≤_, _<_};
+ghost use Prim.Native.Nat.{ℕ, suc, _≤_, _<_};
 ghost use mathlib.Core.Path.{_≡_};
-ghost use lib.ListN.{length, getD, take};
+ghost use lib.ListN.{length, take};
 ghost use Rattle.metroid_format.specs.Command.{data-limit};
-ghost use Rattle.metroid_format.specs.Mend.{restOf, closed, mended, Passes, changeAt, changes, Lists, Changed, Mends};
+ghost use Rattle.metroid_format.specs.Mend.{restOf, closed, mendedFrom, mended, Passes, changeAt, changes, Lists, Changed, Mends};
 
 pub enum Mending {
     // how many bytes were changed
     Mended(usize),
     WrongSize,
     NoRoom,
+}
+
+// How reading goes on behind a command.
+enum Passing {
+    End,
+    // the offset after it
+    On(usize),
 }
 
 // The words of a change: offset, old byte, new byte.
@@ -44,19 +51,27 @@ fn close(kind: Kind, bytes: &mut [u8], at: usize)
     bytes[at] = rest_of(kind);
 }
 
-// A command that is no end, at an offset: a byte that is refused becomes the rest; the offset after it.
-fn mend_command(kind: Kind, bytes: &mut [u8], at: usize) -> usize
-    requires { ⌜ (at < length (now bytes)) × (getD (now bytes) at 0 ≡ 0 → ⊥) ⌝ }
-    ensures { λ r. ⌜ Passes kind at (now (bytes .entry)) r (now (bytes .exit)) ⌝ }
+// The command at an offset: a byte that is refused becomes the rest.
+fn mend_command(kind: Kind, bytes: &mut [u8], at: usize) -> Passing
+    requires { ⌜ at < length (now bytes) ⌝ }
+    ensures { λ r. ⌜ elim r as (λ _. Type 0) [
+      | Passing.End ↦ (now (bytes .exit) ≡ now (bytes .entry)) × ((left : ℕ) → mendedFrom kind (suc left) at (now (bytes .entry)) ≡ now (bytes .entry))
+      | Passing.On next ↦ Passes kind at (now (bytes .entry)) next (now (bytes .exit))
+    ] ⌝ }
 {
     match command::command_at(kind, bytes, at) {
-        Decoded::Found(_, next) => next,
+        Decoded::Found(command, next) => {
+            if command::is_end(command) {
+                return Passing::End;
+            }
+            Passing::On(next)
+        }
         Decoded::Refused(number, offset) => {
             if number == refusal::PAST_DATA {
-                return offset;
+                return Passing::On(offset);
             }
             bytes[offset] = rest_of(kind);
-            offset + 1
+            Passing::On(offset + 1)
         }
     }
 }
@@ -67,15 +82,16 @@ fn mend_data(kind: Kind, bytes: &mut [u8])
 {
     let mut at: usize = 0;
     while at < bytes.len() {
-        if bytes[at] == 0x00 {
-            return;
+        match mend_command(kind, bytes, at) {
+            Passing::End => return,
+            Passing::On(next) => {
+                if bytes.len() <= next {
+                    close(kind, bytes, at);
+                    return;
+                }
+                at = next;
+            }
         }
-        let next = mend_command(kind, bytes, at);
-        if bytes.len() <= next {
-            close(kind, bytes, at);
-            return;
-        }
-        at = next;
     }
 }
 

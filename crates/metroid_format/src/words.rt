@@ -1,5 +1,6 @@
 // Commands as 16-bit words: straight reading, which runs no loop, and writing.
 use crate::command;
+use crate::command::Command;
 use crate::command::DATA_LIMIT;
 use crate::command::Decoded;
 use crate::command::Finish;
@@ -7,10 +8,11 @@ use crate::command::Kind;
 use engine_base::buffer;
 use engine_base::bytes;
 use engine_base::refusal;
+ghost use Prim.Native.Nat.{ℕ};
 ghost use mathlib.Core.Path.{_≡_};
 ghost use lib.ListN.{take};
 ghost use lib.Seq.{sets};
-ghost use Rattle.metroid_format.specs.Command.{data-limit};
+ghost use Rattle.metroid_format.specs.Command.{data-limit, isEnd};
 ghost use Rattle.metroid_format.specs.Words.{pair, commandOfWord, wordSize, encoded, Encodes, Writes};
 ghost use Rattle.metroid_format.specs.Words.{straight, Decodes, Reads};
 
@@ -29,12 +31,16 @@ pub enum Writing {
     NoRoom,
 }
 
-// The word of the end command.
-const END: u16 = 0;
-
 struct Decoding {
     count: usize,
     finish: Finish,
+}
+
+// Of a word's command.
+struct Size {
+    // 0 where reading never gives the word
+    bytes: usize,
+    end: bool,
 }
 
 struct Encoding {
@@ -56,11 +62,11 @@ fn decode(kind: Kind, bytes: &[u8], out: &mut [u16]) -> Decoding
                     finish: Finish::Refused(number, offset),
                 };
             }
-            Decoded::Found(_, next) => {
+            Decoded::Found(command, next) => {
                 let word = bytes::word(bytes::part(bytes, at, next - at), 0);
                 buffer::put16(out, n, word);
                 n += 1;
-                if word == END {
+                if command::is_end(command) {
                     return Decoding {
                         count: n,
                         finish: Finish::End,
@@ -76,20 +82,27 @@ fn decode(kind: Kind, bytes: &[u8], out: &mut [u16]) -> Decoding
     }
 }
 
-// The bytes of the command that a word stands for, or 0 where reading never gives it.
-fn size_of(kind: Kind, word: u16) -> usize
-    ensures { λ r. ⌜ r ≡ wordSize (commandOfWord kind word) ⌝ }
+// The size of the command that a word stands for, and whether it is the end.
+fn size_of(kind: Kind, word: u16) -> Size
+    ensures { λ r. ⌜ (r .bytes ≡ wordSize (commandOfWord kind word)) × ((c : Command) (next : ℕ) → commandOfWord kind word ≡ Decoded.Found c next → r .end ≡ isEnd c) ⌝ }
 {
     let low = (word % 256) as u8;
     let high = (word / 256) as u8;
     let bytes = [low, high];
     match command::command_at(kind, &bytes, 0) {
-        Decoded::Refused(_, _) => 0,
-        Decoded::Found(_, next) => {
+        Decoded::Refused(_, _) => Size {
+            bytes: 0,
+            end: false,
+        },
+        Decoded::Found(command, next) => {
             if bytes::word(bytes::part(&bytes, 0, next), 0) == word {
-                next
+                let end = command::is_end(command);
+                Size { bytes: next, end }
             } else {
-                0
+                Size {
+                    bytes: 0,
+                    end: false,
+                }
             }
         }
     }
@@ -114,16 +127,17 @@ fn encode(kind: Kind, words: &[u16], out: &mut [u8]) -> Encoding
     while i < words.len() {
         let word = words[i];
         let size = size_of(kind, word);
-        if size == 0 {
+        let count = size.bytes;
+        if count == 0 {
             return Encoding {
                 count: n,
                 valid: false,
             };
         }
-        put_pair(out, n, word, size);
-        n += size;
+        put_pair(out, n, word, count);
+        n += count;
         i += 1;
-        if word == END {
+        if size.end {
             return Encoding {
                 count: n,
                 valid: i == words.len(),

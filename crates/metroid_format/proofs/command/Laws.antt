@@ -1,16 +1,17 @@
 -- What stands where a command is found, and the other way round.
 use Prim.Native.Nat.{ℕ, suc, _+_, _-_, _*_, _/_, _%_, _≤_, _<_, max}
-use mathlib.Core.Bool.{true}
+use mathlib.Core.Bool.{Bool, true, false}
 use mathlib.Core.List.{List}
 use mathlib.Core.Path.{_≡_, refl, sym, subst, _∙_}
 use native.Mathlib.Nat.{add-zero}
 use native.Mathlib.Numerals.{add-one}
 use native.Mathlib.Omega.{arith}
-use borrow.Author.Tests.{eqb-true, eqb-false, leb-true, leb-false, lt-leb, ne-eqb}
+use borrow.Author.Tests.{eqb-true, eqb-false, leb-true, leb-false, lt-leb, eq-eqb, ne-eqb}
 use lib.Dec.{leb, eqb}
-use lib.ListN.{length, getD, take, drop}
+use lib.ListN.{length, getD, take, drop, List·getD-eq-default}
 use lib.Seq.{drop-cons}
 use Rattle.engine_base.specs.Bytes.{wordAt}
+use Rattle.engine_base.specs.Pick.{pick}
 use Rattle.engine_base.specs.Refusal.{past-data, invalid-command, invalid-note, FaultWithin}
 use Rattle.metroid_format.specs.Command.{commandAt, commandOf, noteAfter, isKey, isPreset, isNote, wordOf, isEnd}
 use Rattle.metroid_format.specs.declared.command.Kind.{Kind}
@@ -62,6 +63,10 @@ note-small Noise b y =
     (λ _. by-test (λ x. x ≡ true → b < 0x80) (eqb b 0x07) (λ e _. omega (arith, eqb-true b 0x07 e))
     (λ _ z. omega (arith, eqb-true b 0x0a z)))) y
 
+-- past the data stands no BL
+pub past-length : (bytes : List ℕ) (at : ℕ) → length bytes ≤ at → getD bytes at 0 / 16 ≡ 0x0b → ⊥
+past-length bytes at h e = omega (arith, List·getD-eq-default bytes 0 h)
+
 pub next-after : {kind : Kind} {bytes : List ℕ} {at : ℕ} {c : Command} {next : ℕ} → Stands kind bytes at c next → at < next
 next-after (is-end h e) = omega arith
 next-after (is-end-loop h e) = omega arith
@@ -98,13 +103,28 @@ word-there (is-begin n s h e) = one-byte _ _ h ∙ e
 word-there (is-length l note s y h e g) = two-bytes _ _ h ∙ rw (e, g)
 word-there (is-note b p s y h e) = one-byte _ _ h ∙ e
 
--- only the end command has the word 0
-pub end-word : {kind : Kind} {bytes : List ℕ} {at : ℕ} {c : Command} {next : ℕ} → Stands kind bytes at c next → isEnd c ≡ eqb (wordOf c) 0
-end-word (is-end h e) = refl
-end-word (is-end-loop h e) = refl
-end-word (is-begin n s h e) = sym (ne-eqb (0xc0 + n) 0 (λ z. omega arith))
-end-word (is-length l note s y h e g) = sym (ne-eqb (0xb0 + l + 256 * note) 0 (λ z. omega arith))
-end-word (is-note b p s y h e) = sym (ne-eqb b 0 (λ z. omega arith))
+-- r is what `note_fault` answers
+abbrev pub Noted : Kind → List ℕ → ℕ → ℕ → Type 0
+Noted kind bytes at r = (l : ℕ) → pick (eqb r 0) (Found (Length l (getD bytes at 0)) (at + 1)) (Refused r at) ≡ noteAfter kind bytes at l
+
+module _ (kind : Kind) (bytes : List ℕ) (at r : ℕ) (q : Noted kind bytes at r) where
+  pub note-refused : (r ≡ 0 → ⊥) → (l : ℕ) → Refused r at ≡ noteAfter kind bytes at l
+  note-refused z l = rw (ne-eqb r 0 z) at (q l)
+
+  module _ (z : r ≡ 0) where
+    pub note-found : (l : ℕ) → Found (Length l (getD bytes at 0)) (at + 1) ≡ noteAfter kind bytes at l
+    note-found l = rw (eq-eqb r 0 z) at (q l)
+
+    there-by : (b : Bool) → leb (length bytes) at ≡ b → at < length bytes
+    unfolding noteAfter
+    there-by true e =
+        let f : Found (Length 0 (getD bytes at 0)) (at + 1) ≡ Refused past-data at = note-found 0 ∙ simp e in
+        let k : _≡_ {A = ℕ} 0 1 = cc in
+        absurd (omega arith)
+    there-by false e = leb-false (length bytes) at e
+
+    pub note-there : at < length bytes
+    note-there = there-by (leb (length bytes) at) refl
 
 module _ (kind : Kind) (bytes : List ℕ) (at : ℕ) where
   after-right : at < length bytes → getD bytes at 0 / 16 ≡ 0x0b → Right kind bytes at (noteAfter kind bytes (at + 1) (getD bytes at 0 % 16))
@@ -135,6 +155,9 @@ module _ (kind : Kind) (bytes : List ℕ) (at : ℕ) where
 
   pub found : {c : Command} {next : ℕ} → commandAt kind bytes at ≡ Found c next → Stands kind bytes at c next
   found e = subst (Right kind bytes at) e command-right
+
+  pub within : {c : Command} {next : ℕ} → Found c next ≡ commandAt kind bytes at → next ≤ length bytes
+  within e = next-within (found (sym e))
 
   pub unfit : {number offset : ℕ} → commandAt kind bytes at ≡ Refused number offset → Unfit bytes at number offset
   unfit e = subst (Right kind bytes at) e command-right
@@ -169,6 +192,17 @@ module _ (kind : Kind) (bytes : List ℕ) (at : ℕ) where
       let k : getD bytes at 0 < 0x80 = omega arith in
       let w : isNote kind (getD bytes at 0) ≡ true = rw e y in
       sym (rw (← e) (search picks depth 12))
+
+  -- BL, and its next byte
+  pub after-length : at < length bytes → (l : ℕ) → l < 16 → getD bytes at 0 ≡ 0xb0 + l → noteAfter kind bytes (at + 1) l ≡ commandAt kind bytes at
+  unfolding commandAt commandOf
+  after-length h l s e =
+      let z : getD bytes at 0 ≡ 0x00 → ⊥ = λ k. omega arith in
+      let f : getD bytes at 0 ≡ 0xff → ⊥ = λ k. omega arith in
+      let q : getD bytes at 0 / 64 ≡ 3 → ⊥ = λ k. omega arith in
+      let p : getD bytes at 0 / 16 ≡ 0x0b = omega arith in
+      let r : getD bytes at 0 % 16 ≡ l = omega arith in
+      rw (← r) (search picks depth 12)
 
   -- r is what `command_at` answers
   module _ (r : Decoded) (q : r ≡ commandAt kind bytes at) (c : Command) (next : ℕ) (e : r ≡ Found c next) where

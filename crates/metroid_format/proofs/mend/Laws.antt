@@ -1,6 +1,6 @@
 -- Mending a command at a time, and listing a change at a time.
 use Prim.Native.Nat.{ℕ, zero, suc, _+_, _-_, _*_, _^_, _≤_, _<_}
-use mathlib.Core.Bool.{false}
+use mathlib.Core.Bool.{Bool, true, false}
 use mathlib.Core.List.{List, [], _∷_, _++_}
 use mathlib.Core.Path.{_≡_, refl, sym, ap, _∙_}
 use native.Mathlib.Nat.{zero-add}
@@ -21,18 +21,7 @@ use Rattle.metroid_format.specs.declared.command.Decoded.{Decoded}
 use Rattle.metroid_format.specs.declared.command.Decoded.the-variants.{Found, Refused}
 use Rattle.engine_base.proofs.Picks.{by-test}
 use Rattle.engine_base.proofs.Buffers.{Written, written-none, written-more}
-use Rattle.metroid_format.proofs.command.Laws.{Stands, is-end, is-end-loop, is-begin, is-length, is-note, Unfit, past, lone, behind, found, unfit, stands, next-after}
-
-not-0 : (b n : ℕ) → b ≡ n → 0 < n → eqb b 0 ≡ false
-not-0 b n e h = ne-eqb b 0 (λ (z : b ≡ 0). omega arith)
-
--- only the end command begins with 00
-pub end-byte : {kind : Kind} {bytes : List ℕ} {at : ℕ} {c : Command} {next : ℕ} → Stands kind bytes at c next → isEnd c ≡ eqb (getD bytes at 0) 0
-end-byte (is-end h e) = sym (eq-eqb _ 0 e)
-end-byte (is-end-loop h e) = sym (not-0 _ 0xff e (omega arith))
-end-byte (is-begin n s h e) = sym (not-0 _ (0xc0 + n) e (omega arith))
-end-byte (is-length l note s y h e g) = sym (not-0 _ (0xb0 + l) e (omega arith))
-end-byte (is-note b p s y h e) = sym (not-0 _ b e p)
+use Rattle.metroid_format.proofs.command.Laws.{Unfit, past, lone, behind, found, unfit, next-after}
 
 module _ (kind : Kind) (bytes : List ℕ) (at : ℕ) where
   past-by : {number offset : ℕ} → Unfit bytes at number offset → number ≡ past-data → (length bytes ≤ offset) × (offset ≤ at + 1)
@@ -62,11 +51,15 @@ module _ (kind : Kind) (bytes : List ℕ) (at : ℕ) where
   mended-next left d e = rw e
 
   -- r is what `command_at` answers
-  module _ (h : at < length bytes) (z : getD bytes at 0 ≡ 0 → ⊥) (r : Decoded) (q : r ≡ commandAt kind bytes at) where
-    pub passes-found : (c : Command) (next : ℕ) → r ≡ Found c next → Passes kind at bytes next bytes
-    passes-found c next e =
-        let s = found kind bytes at (sym q ∙ e) in
-        record { later = next-after s; size = refl; same = λ left. mended-next left _ (sym q ∙ e) ∙ rw (end-byte s, ne-eqb _ 0 z) }
+  module _ (h : at < length bytes) (r : Decoded) (q : r ≡ commandAt kind bytes at) where
+    -- y is what `is_end` answers
+    module _ (c : Command) (next : ℕ) (e : r ≡ Found c next) (y : Bool) (f : y ≡ isEnd c) where
+      pub ends-there : y ≡ true → (left : ℕ) → mendedFrom kind (suc left) at bytes ≡ bytes
+      ends-there t left = mended-next left _ (sym q ∙ e) ∙ rw (← f, t)
+
+      pub passes-found : y ≡ false → Passes kind at bytes next bytes
+      passes-found t =
+          record { later = next-after (found kind bytes at (sym q ∙ e)); size = refl; same = λ left. mended-next left _ (sym q ∙ e) ∙ rw (← f, t) }
 
     module _ (number offset : ℕ) (e : r ≡ Refused number offset) where
       pub passes-past : number ≡ past-data → Passes kind at bytes offset bytes
@@ -124,11 +117,10 @@ module _ (kind : Kind) (before : List ℕ) where
     pub midway-past : length now ≤ at → now ≡ mended kind before
     midway-past h = m .none h
 
-    pub midway-end : at < length now → getD now at 0 ≡ 0 → now ≡ mended kind before
-    midway-end h z =
+    pub midway-end : at < length now → (after : List ℕ) → after ≡ now → ((left : ℕ) → mendedFrom kind (suc left) at now ≡ now) → after ≡ mended kind before
+    midway-end h after e z =
         let (l, n, s) = one h in
-        let e = stands kind now at (is-end h z) in
-        sym (mended-next kind now at l _ e) ∙ s
+        e ∙ sym (z l) ∙ s
 
     module _ (h : at < length now) (after : List ℕ) (next : ℕ) (p : Passes kind at now next after) where
       pub midway-falls : next < length after → length after - next < length now - at

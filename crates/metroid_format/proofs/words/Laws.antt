@@ -2,7 +2,7 @@
 use Prim.Native.Nat.{ℕ, zero, suc, _+_, _-_, _*_, _/_, _%_, _^_, _≤_, _<_}
 use mathlib.Core.Bool.{Bool, true, false}
 use mathlib.Core.List.{List, [], _∷_, _++_, append-nil}
-use mathlib.Core.Path.{_≡_, refl, sym, subst, _∙_}
+use mathlib.Core.Path.{_≡_, refl, sym, ap, subst, _∙_}
 use native.Mathlib.Nat.{sub-zero}
 use native.Mathlib.Numerals.{add-one}
 use native.Mathlib.Omega.{arith}
@@ -13,8 +13,8 @@ use lib.Dec.{eqb, eqb·zero-suc, eqb·suc-zero, eqb·suc-suc}
 use lib.ListN.{length, getD, set, take, drop, drop-of-length-le}
 use lib.Seq.{sets, drop-cons, length-take-le}
 use Rattle.engine_base.specs.Bytes.{wordAt}
-use Rattle.engine_base.specs.Refusal.{past-data}
-use Rattle.metroid_format.specs.Command.{commandAt, wordOf}
+use Rattle.engine_base.specs.Refusal.{past-data, invalid-word}
+use Rattle.metroid_format.specs.Command.{commandAt, wordOf, isEnd}
 use Rattle.metroid_format.specs.Words.{pair, commandOfWord, Straight, straightFrom, straightBy, straight, afterCommand, Decodes, Encoded, encoded, encodedBy, beforeRest, Encodes, wordSize}
 use Rattle.metroid_format.specs.declared.command.Kind.{Kind}
 use Rattle.metroid_format.specs.declared.command.Command.{Command}
@@ -23,26 +23,37 @@ use Rattle.metroid_format.specs.declared.command.Decoded.the-variants.{F
 use Rattle.metroid_format.specs.declared.command.Finish.{Finish}
 use Rattle.metroid_format.specs.declared.command.Finish.the-variants.{End as Ended, Refused as Faulty}
 use Rattle.engine_base.proofs.Picks.{by-test}
-use Rattle.metroid_format.proofs.command.Laws.{Stands, found, next-after, next-within, word-there, end-word}
+use Rattle.metroid_format.proofs.command.Laws.{Stands, found, next-after, next-within, word-there}
 use Rattle.engine_base.proofs.Buffers.{Written, written-none, written-more}
+
+abbrev ends : Decoded → Bool
+ends (Found c next) = isEnd c
+ends (Refused number at) = false
+
+-- what `size_of` answers of a word: the bytes of its command, and whether it is the end
+abbrev Sized : Kind → ℕ → ℕ → Bool → Type 0
+Sized kind w n y = (n ≡ wordSize (commandOfWord kind w)) × ((c : Command) (next : ℕ) → commandOfWord kind w ≡ Found c next → y ≡ isEnd c)
+
+sized : (kind : Kind) (w : ℕ) (d : Decoded) → commandOfWord kind w ≡ d → Sized kind w (wordSize d) (ends d)
+sized kind w d e = (ap wordSize (sym e), λ c next f. ap ends (sym e ∙ f))
 
 -- r is what `command_at` answers of a word's two bytes, and v the word of the command's
 module _ (kind : Kind) (w : ℕ) (r : Decoded) (q : r ≡ commandAt kind (pair w) 0) where
-  pub size-refused : (number offset : ℕ) → r ≡ Refused number offset → 0 ≡ wordSize (commandOfWord kind w)
+  pub size-refused : (number offset : ℕ) → r ≡ Refused number offset → Sized kind w 0 false
   unfolding commandOfWord
-  size-refused number offset e = rw (← q, e)
+  size-refused number offset e = sized kind w (Refused invalid-word 0) (rw (← q, e))
 
   module _ (c : Command) (next : ℕ) (e : r ≡ Found c next) (part : List ℕ) (p : part ≡ take next (pair w)) (v : ℕ) (f : v ≡ wordAt part 0) where
     given-word : v ≡ wordOf c
     given-word = f ∙ rw (p, ← sub-zero next) (word-there (found kind (pair w) 0 (sym q ∙ e)))
 
-    pub size-found : v ≡ w → next ≡ wordSize (commandOfWord kind w)
+    pub size-found : v ≡ w → (y : Bool) → y ≡ isEnd c → Sized kind w next y
     unfolding commandOfWord
-    size-found g = rw (← q, e) (simp (eq-eqb (wordOf c) w (sym given-word ∙ g)))
+    size-found g y t = rw t (sized kind w (Found c next) (rw (← q, e) (simp (eq-eqb (wordOf c) w (sym given-word ∙ g)))))
 
-    pub size-other : (v ≡ w → ⊥) → 0 ≡ wordSize (commandOfWord kind w)
+    pub size-other : (v ≡ w → ⊥) → Sized kind w 0 false
     unfolding commandOfWord
-    size-other g = rw (← q, e) (simp (ne-eqb (wordOf c) w (λ h. g (given-word ∙ h))))
+    size-other g = sized kind w (Refused invalid-word 0) (rw (← q, e) (simp (ne-eqb (wordOf c) w (λ h. g (given-word ∙ h)))))
 
 module _ (kind : Kind) (bytes : List ℕ) where
   pub straight-next : (left l at : ℕ) (d : Decoded) → left ≡ suc l → commandAt kind bytes at ≡ d → straightFrom kind bytes left at ≡ straightBy at (λ next. straightFrom kind bytes l next) d
@@ -98,18 +109,20 @@ module _ (kind : Kind) (bytes : List ℕ) where
           word-is : w ≡ wordOf c
           word-is = f ∙ rw p (word-there standing)
 
-          after : (x : Bool) → eqb w 0 ≡ x → straightFrom kind bytes (length bytes - n) at ≡ afterCommand x w next (straightFrom kind bytes (length bytes - (n + 1)) next)
-          after x t = straight-next _ _ at _ one-more (sym q ∙ e) ∙ rw (end-word standing, ← word-is, t)
+          -- y is what `is_end` answers
+          module _ (y : Bool) (t : y ≡ isEnd c) where
+            after : (x : Bool) → y ≡ x → straightFrom kind bytes (length bytes - n) at ≡ afterCommand x w next (straightFrom kind bytes (length bytes - (n + 1)) next)
+            after x z = straight-next _ _ at _ one-more (sym q ∙ e) ∙ rw (← t, ← word-is, z)
 
-          pub decodes-end : w ≡ 0 → Decodes (straight kind bytes) before (n + 1) Ended now′
-          decodes-end z =
-              let s = rest-is _ (after true (eq-eqb w 0 z)) in
-              decodes _ (n + 1) _ (rw g (written-more (w ∷ []) (s .0))) (s .1)
+            pub decodes-end : y ≡ true → Decodes (straight kind bytes) before (n + 1) Ended now′
+            decodes-end z =
+                let s = rest-is _ (after true z) in
+                decodes _ (n + 1) _ (rw g (written-more (w ∷ []) (s .0))) (s .1)
 
-          pub midway-more : (w ≡ 0 → ⊥) → Midway before now′ (n + 1) next
-          midway-more z =
-              let s = rest-is _ (after false (ne-eqb w 0 z)) in
-              record { within = omega arith; written = rw g (written-more (w ∷ []) (s .0)); finish = s .1 }
+            pub midway-more : y ≡ false → Midway before now′ (n + 1) next
+            midway-more z =
+                let s = rest-is _ (after false z) in
+                record { within = omega arith; written = rw g (written-more (w ∷ []) (s .0)); finish = s .1 }
 
 abbrev Word : Kind → ℕ → Decoded → Type 0
 Word kind w (Found c next) = Stands kind (pair w) 0 c next × (wordOf c ≡ w)
@@ -178,7 +191,7 @@ module _ (kind : Kind) (words : List ℕ) where
         let s = rest-of _ (encoded-none i h) in
         encodes _ n now (s .0) (s .1)
 
-    -- r is what `size_of` answers
+    -- r and y are what `size_of` answers
     module _ (h : i < length words) (r : ℕ) (q : r ≡ wordSize (commandOfWord kind (getD words i 0))) where
       pub encodes-refused : r ≡ 0 → Encodes (encoded kind words) before n false now
       encodes-refused z =
@@ -197,11 +210,6 @@ module _ (kind : Kind) (words : List ℕ) where
 
         -- now′ is the buffer with the word's bytes
         module _ (now′ : List ℕ) (g : now′ ≡ sets now n (take r (pair (getD words i 0)))) where
-          after-word : (x : Bool) → eqb (getD words i 0) 0 ≡ x → encoded kind (drop i words) ≡ beforeRest x (take r (pair (getD words i 0))) (drop (i + 1) words) (encoded kind (drop (i + 1) words))
-          after-word x t =
-              let s = word-stands kind _ (here .1) in
-              encoded-next i _ h (here .1) ∙ rw (end-word (s .0), s .1, t)
-
           length-bytes : length (take r (pair (getD words i 0))) ≡ r
           length-bytes = length-take-le r (pair (getD words i 0)) small
 
@@ -209,12 +217,16 @@ module _ (kind : Kind) (words : List ℕ) where
           more-bytes rest w =
               rw g (subst (λ (k : ℕ). Written before (encoded kind words .bytes) (sets now n (take r (pair (getD words i 0)))) (n + k) rest) length-bytes (written-more (take r (pair (getD words i 0))) w))
 
-          pub encodes-end : getD words i 0 ≡ 0 → Encodes (encoded kind words) before (n + r) (eqb (i + 1) (length words)) now′
-          encodes-end e =
-              let s = rest-of _ (after-word true (eq-eqb _ 0 e)) in
-              encodes _ (n + r) _ (more-bytes [] (rw append-nil (s .0))) (s .1 ∙ none-left (i + 1) words (omega arith))
+          module _ (y : Bool) (t : (c : Command) (next : ℕ) → commandOfWord kind (getD words i 0) ≡ Found c next → y ≡ isEnd c) where
+            after-word : (x : Bool) → y ≡ x → encoded kind (drop i words) ≡ beforeRest x (take r (pair (getD words i 0))) (drop (i + 1) words) (encoded kind (drop (i + 1) words))
+            after-word x e = encoded-next i _ h (here .1) ∙ rw (← (t _ _ (here .1)), e)
 
-          pub halfway-more : (getD words i 0 ≡ 0 → ⊥) → Halfway before now′ (i + 1) (n + r)
-          halfway-more e =
-              let s = rest-of _ (after-word false (ne-eqb _ 0 e)) in
-              record { within = omega arith; small = omega (arith, m .small, small); written = more-bytes _ (s .0); judged = s .1 }
+            pub encodes-end : y ≡ true → Encodes (encoded kind words) before (n + r) (eqb (i + 1) (length words)) now′
+            encodes-end e =
+                let s = rest-of _ (after-word true e) in
+                encodes _ (n + r) _ (more-bytes [] (rw append-nil (s .0))) (s .1 ∙ none-left (i + 1) words (omega arith))
+
+            pub halfway-more : y ≡ false → Halfway before now′ (i + 1) (n + r)
+            halfway-more e =
+                let s = rest-of _ (after-word false e) in
+                record { within = omega arith; small = omega (arith, m .small, small); written = more-bytes _ (s .0); judged = s .1 }

@@ -1,17 +1,15 @@
+use native.Mathlib.Omega.{arith}
 use borrow.Author.Needs.{needs}
-use Rattle.metroid_format.specs.Command.{noteAfter}
-use Rattle.engine_base.proofs.Picks.{picks}
+use Rattle.metroid_format.proofs.command.Laws.{note-refused, note-found, note-there}
 use Rattle.metroid_format.proofs.command.note_after.Statement.{statement}
 use Rattle.metroid_format.proofs.command.note_after.Tie as tie
 
 pub note-after-spec : {M : Type 1} → statement M
-unfolding noteAfter
 note-after-spec =
     tie.close
     (tie.spec
-    (λ c. search picks depth 12)
-    (λ c. search needs)
     (λ c κs. search needs)
-    (λ c. search needs)
-    (λ c. search picks depth 12)
-    (λ c. search picks depth 12))
+    (λ c. search note-refused depth 8)
+    (λ c. let h = note-there _ _ _ _ (c .before .before .note-fault .ensures) (c .before .if1 .left) in search needs)
+    (λ c. let h = note-there _ _ _ _ (c .before .before .note-fault .ensures) (c .before .if1 .left) in search needs)
+    (λ c. search note-found depth 8))

@@ -1,5 +1,6 @@
+use mathlib.Core.Path.{refl}
 use borrow.Author.Needs.{needs}
-use Rattle.metroid_format.proofs.mend.Laws.{there, after-fits, passes-found, passes-past, passes-rest}
+use Rattle.metroid_format.proofs.mend.Laws.{there, after-fits, ends-there, passes-found, passes-past, passes-rest}
 use Rattle.metroid_format.proofs.mend.mend_command.Statement.{statement}
 use Rattle.metroid_format.proofs.mend.mend_command.Tie as tie
 
@@ -9,6 +10,9 @@ mend-command-spec =
     (tie.spec
     (λ c κs. search needs)
     (λ c. search needs)
+    (λ c κs. search needs)
+    (λ c. search needs)
+    (λ c. (refl, search ends-there depth 12))
     (λ c. search needs)
     (λ c. search needs)
     (λ c. search passes-past depth 10)
@@ -16,6 +20,6 @@ mend-command-spec =
     (λ c. search there depth 10)
     (λ c. search after-fits depth 12)
     (λ c. search needs)
-    (λ c. search passes-found depth 10)
+    (λ c. search passes-found depth 12)
     (λ c. search needs)
     (λ c. search passes-rest depth 10))

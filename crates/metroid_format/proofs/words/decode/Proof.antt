@@ -31,6 +31,7 @@ decode-spec =
     (λ c κs. search needs)
     (λ c κs. search needs)
     (λ c. omega arith)
+    (λ c κs. search needs)
     (λ c. search same-length depth 8)
     (λ c. search decodes-end depth 14)
     (λ c. omega arith)
