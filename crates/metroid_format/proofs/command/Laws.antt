@@ -13,7 +13,7 @@ use lib.Seq.{drop-cons}
 use Rattle.engine_base.specs.Bytes.{wordAt}
 use Rattle.engine_base.specs.Pick.{pick}
 use Rattle.engine_base.specs.Refusal.{past-data, invalid-command, invalid-note, FaultWithin}
-use Rattle.metroid_format.specs.Command.{commandAt, commandOf, noteAfter, isKey, isPreset, isNote, wordOf, isEnd}
+use Rattle.metroid_format.specs.Command.{commandAt, commandOf, noteAfter, isKey, isPreset, isNote, wordOf}
 use Rattle.metroid_format.specs.declared.command.Kind.{Kind}
 use Rattle.metroid_format.specs.declared.command.Kind.the-variants.{Melodic, Noise}
 use Rattle.metroid_format.specs.declared.command.Command.{Command}
@@ -165,6 +165,17 @@ module _ (kind : Kind) (bytes : List ℕ) (at : ℕ) where
   pub refused-near : {number offset : ℕ} → commandAt kind bytes at ≡ Refused number offset → FaultWithin (max at (length bytes)) number offset × Wants bytes number offset
   refused-near e = near (unfit e)
 
+  -- BL, and its next byte
+  pub after-length : at < length bytes → (l : ℕ) → l < 16 → getD bytes at 0 ≡ 0xb0 + l → noteAfter kind bytes (at + 1) l ≡ commandAt kind bytes at
+  unfolding commandAt commandOf
+  after-length h l s e =
+      let z : getD bytes at 0 ≡ 0x00 → ⊥ = λ k. omega arith in
+      let f : getD bytes at 0 ≡ 0xff → ⊥ = λ k. omega arith in
+      let q : getD bytes at 0 / 64 ≡ 3 → ⊥ = λ k. omega arith in
+      let p : getD bytes at 0 / 16 ≡ 0x0b = omega arith in
+      let r : getD bytes at 0 % 16 ≡ l = omega arith in
+      rw (← r) (search picks depth 12)
+
   pub stands : {c : Command} {next : ℕ} → Stands kind bytes at c next → commandAt kind bytes at ≡ Found c next
   unfolding commandAt commandOf noteAfter
   stands (is-end h e) = simp (lt-leb _ _ h, e)
@@ -177,13 +188,8 @@ module _ (kind : Kind) (bytes : List ℕ) (at : ℕ) where
       sym (rw (← r) (search picks depth 12))
   stands (is-length l note s y h e g) =
       let i : at < length bytes = omega arith in
-      let z : getD bytes at 0 ≡ 0x00 → ⊥ = λ k. omega arith in
-      let f : getD bytes at 0 ≡ 0xff → ⊥ = λ k. omega arith in
-      let q : getD bytes at 0 / 64 ≡ 3 → ⊥ = λ k. omega arith in
-      let p : getD bytes at 0 / 16 ≡ 0x0b = omega arith in
-      let r : getD bytes at 0 % 16 ≡ l = omega arith in
       let w : isNote kind (getD bytes (at + 1) 0) ≡ true = rw g y in
-      sym (rw (← r, ← g) (search picks depth 12))
+      sym (rw (← g) (search picks depth 12) ∙ after-length i l s e)
   stands (is-note b p s y h e) =
       let z : getD bytes at 0 ≡ 0x00 → ⊥ = λ k. omega arith in
       let f : getD bytes at 0 ≡ 0xff → ⊥ = λ k. omega arith in
@@ -192,17 +198,6 @@ module _ (kind : Kind) (bytes : List ℕ) (at : ℕ) where
       let k : getD bytes at 0 < 0x80 = omega arith in
       let w : isNote kind (getD bytes at 0) ≡ true = rw e y in
       sym (rw (← e) (search picks depth 12))
-
-  -- BL, and its next byte
-  pub after-length : at < length bytes → (l : ℕ) → l < 16 → getD bytes at 0 ≡ 0xb0 + l → noteAfter kind bytes (at + 1) l ≡ commandAt kind bytes at
-  unfolding commandAt commandOf
-  after-length h l s e =
-      let z : getD bytes at 0 ≡ 0x00 → ⊥ = λ k. omega arith in
-      let f : getD bytes at 0 ≡ 0xff → ⊥ = λ k. omega arith in
-      let q : getD bytes at 0 / 64 ≡ 3 → ⊥ = λ k. omega arith in
-      let p : getD bytes at 0 / 16 ≡ 0x0b = omega arith in
-      let r : getD bytes at 0 % 16 ≡ l = omega arith in
-      rw (← r) (search picks depth 12)
 
   -- r is what `command_at` answers
   module _ (r : Decoded) (q : r ≡ commandAt kind bytes at) (c : Command) (next : ℕ) (e : r ≡ Found c next) where

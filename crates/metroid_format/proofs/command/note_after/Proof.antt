@@ -1,4 +1,3 @@
-use native.Mathlib.Omega.{arith}
 use borrow.Author.Needs.{needs}
 use Rattle.metroid_format.proofs.command.Laws.{note-refused, note-found, note-there}
 use Rattle.metroid_format.proofs.command.note_after.Statement.{statement}

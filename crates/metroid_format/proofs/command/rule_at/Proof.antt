@@ -1,5 +1,4 @@
 use mathlib.Core.Path.{sym, _∙_}
-use native.Mathlib.Omega.{arith}
 use borrow.Author.Needs.{needs}
 use Rattle.metroid_format.specs.Command.{commandAt, commandOf}
 use Rattle.engine_base.proofs.Picks.{picks}
