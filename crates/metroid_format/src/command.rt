@@ -56,7 +56,7 @@ pub enum Decoded {
     Refused(u32, usize),
 }
 
-// 00 too, which is no end directly after BL.
+// 00 too: directly after BL it is key 0.
 fn is_key(b: u8) -> bool
     ensures { λ r. ⌜ r ≡ isKey b ⌝ }
 {
@@ -132,7 +132,7 @@ pub(crate) fn rule_at(kind: Kind, bytes: &[u8], at: usize) -> Rule
     Rule::Invalid(refusal::INVALID_NOTE)
 }
 
-// The byte after BL is a key or preset whatever it is: 15 or 11 where it isn't, else 0.
+// The byte after BL is read as a key or preset whatever it is: 15 where none stands there, 11 where it names neither, else 0.
 pub(crate) fn note_fault(kind: Kind, bytes: &[u8], at: usize) -> u32
     ensures { λ r. ⌜ ((l : ℕ) → pick (eqb r 0) (Decoded.Found (Command.Length l (getD (now (bytes .entry)) at 0)) (at + 1)) (Decoded.Refused r at) ≡
         noteAfter kind (now (bytes .entry)) at l) ⌝ }
