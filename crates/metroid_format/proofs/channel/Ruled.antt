@@ -38,41 +38,41 @@ module _ (kind : Kind) (bytes lengths : List ℕ) (window start at : ℕ) (curre
   abbrev played : Decoded → Played
   played d = playedBy start (playedOf lengths window start at current) d
 
-  abbrev Plays : Played → Type 0
-  Plays p = p ≡ playedAt (sourceOf kind bytes lengths window start) at current
+  abbrev Says : Played → Type 0
+  Says p = p ≡ playedAt (sourceOf kind bytes lengths window start) at current
 
-  other : (getD bytes at 0 / 16 ≡ 0x0b → ⊥) → (d : Decoded) → d ≡ commandAt kind bytes at → Plays (played d)
+  other : (getD bytes at 0 / 16 ≡ 0x0b → ⊥) → (d : Decoded) → d ≡ commandAt kind bytes at → Says (played d)
   unfolding playedAt lengthFault
   other z d e = rw (ne-eqb _ _ z, ← e)
 
-  pub plays-lone : (c : Command) → Decoded.Found c (at + 1) ≡ commandAt kind bytes at → Plays (playedOf lengths window start at current c (at + 1))
+  pub plays-lone : (c : Command) → Decoded.Found c (at + 1) ≡ commandAt kind bytes at → Says (playedOf lengths window start at current c (at + 1))
   plays-lone c e = other (whole (found kind bytes at (sym e)) refl) (Decoded.Found c (at + 1)) e
 
   -- a note or rest
   module _ (b : ℕ) (e : Decoded.Found (Command.Note b) (at + 1) ≡ commandAt kind bytes at) where
-    pub plays-early : current .count ≡ 0 → Plays (Played.Refused no-length at (addressAt start at))
+    pub plays-early : current .count ≡ 0 → Says (Played.Refused no-length at (addressAt start at))
     plays-early z = rw (eq-eqb _ 0 z) at (plays-lone (Command.Note b) e)
 
-    pub plays-note : (current .count ≡ 0 → ⊥) → Plays (Played.Note b (at + 1))
+    pub plays-note : (current .count ≡ 0 → ⊥) → Says (Played.Note b (at + 1))
     plays-note z = rw (ne-eqb _ 0 z) at (plays-lone (Command.Note b) e)
 
-  pub plays-invalid : (number : ℕ) → (getD bytes at 0 / 16 ≡ 0x0b → ⊥) × (Decoded.Refused number at ≡ commandAt kind bytes at) → Plays (Played.Refused number at (addressAt start at))
+  pub plays-invalid : (number : ℕ) → (getD bytes at 0 / 16 ≡ 0x0b → ⊥) × (Decoded.Refused number at ≡ commandAt kind bytes at) → Says (Played.Refused number at (addressAt start at))
   plays-invalid number (z, e) = other z (Decoded.Refused number at) e
 
   -- BL, of which f is what `length_fault` answers
   module _ (h : at < length bytes) (l : ℕ) (s : l < 16) (e : getD bytes at 0 ≡ 0xb0 + l) (f : ℕ) (q : f ≡ lengthFault lengths window (0xb0 + l)) where
-    pub plays-fault : (f ≡ 0 → ⊥) → Plays (Played.Refused f at (addressAt start at))
+    pub plays-fault : (f ≡ 0 → ⊥) → Says (Played.Refused f at (addressAt start at))
     unfolding playedAt
     plays-fault z = rw (e, ← q, ne-eqb f 0 z)
 
     -- r is what `note_fault` answers of its next byte
     module _ (z : f ≡ 0) (r : ℕ) (t : Noted kind bytes (at + 1) r) where
-      after : (d : Decoded) → d ≡ noteAfter kind bytes (at + 1) l → Plays (played d)
+      after : (d : Decoded) → d ≡ noteAfter kind bytes (at + 1) l → Says (played d)
       unfolding playedAt
       after d g = rw (e, ← q, eq-eqb f 0 z, ← (after-length kind bytes at h l s e), ← g)
 
-      pub plays-unfit : (r ≡ 0 → ⊥) → Plays (Played.Refused r (at + 1) (addressAt start (at + 1)))
+      pub plays-unfit : (r ≡ 0 → ⊥) → Says (Played.Refused r (at + 1) (addressAt start (at + 1)))
       plays-unfit y = after _ (note-refused kind bytes (at + 1) r t y l)
 
-      pub plays-length : r ≡ 0 → (note count : ℕ) → note ≡ getD bytes (at + 1) 0 → count ≡ getD lengths (window + l) 0 → Plays (Played.Length note (record { count = count }) (at + 1 + 1))
+      pub plays-length : r ≡ 0 → (note count : ℕ) → note ≡ getD bytes (at + 1) 0 → count ≡ getD lengths (window + l) 0 → Says (Played.Length note (record { count = count }) (at + 1 + 1))
       plays-length y note count n c = rw (n, c) (after _ (note-found kind bytes (at + 1) r t y l))
