@@ -3,10 +3,11 @@ use engine_base::field;
 use engine_base::refusal;
 ghost use Prim.Native.Nat.{ℕ, _+_, _/_, _<_};
 ghost use mathlib.Core.Path.{_≡_};
-ghost use lib.Dec.{eqb};
+ghost use lib.Dec.{leb};
 ghost use lib.ListN.{length, getD};
 ghost use Rattle.metroid_format.specs.Command.{commandAt, isKey, isPreset, isNote, noteAfter, isEnd, told};
 ghost use Rattle.engine_base.specs.Pick.{pick};
+ghost use Rattle.engine_base.specs.Refusal.{past-data, invalid-note};
 ghost use Rattle.engine_base.specs.Told.{Answers};
 
 // The bytes of one channel's data.
@@ -92,6 +93,20 @@ pub fn is_note(kind: Kind, b: u8) -> bool
     }
 }
 
+// The byte at an offset as a key or preset, a lone one or what stands directly after BL: 15 where there is none, 11 where it
+// names neither, else 0.
+pub(crate) fn note_fault(kind: Kind, bytes: &[u8], at: usize) -> u32
+    ensures { λ r. ⌜ r ≡ pick (leb (length (now (bytes .entry))) at) past-data (pick (isNote kind (getD (now (bytes .entry)) at 0)) 0 invalid-note) ⌝ }
+{
+    if bytes.len() <= at {
+        return refusal::PAST_DATA;
+    }
+    if is_note(kind, bytes[at]) {
+        return 0;
+    }
+    refusal::INVALID_NOTE
+}
+
 // Document 01's list for the byte at an offset, where a command stands: the first rule that fits decides.
 pub(crate) fn rule_at(kind: Kind, bytes: &[u8], at: usize) -> Rule
     ensures { λ r. ⌜ elim r as (λ _. Type 0) [
@@ -121,29 +136,16 @@ pub(crate) fn rule_at(kind: Kind, bytes: &[u8], at: usize) -> Rule
     if b >> 4 == 0x0b {
         return Rule::Length(field::low4(b));
     }
-    // melodic, noise
-    if is_note(kind, b) {
-        return Rule::Note(b);
-    }
-    // no rule fits
+    // no rule has $80 to $AF
     if 0x80 <= b {
         return Rule::Invalid(refusal::INVALID_COMMAND);
     }
-    Rule::Invalid(refusal::INVALID_NOTE)
-}
-
-// The byte after BL is read as a key or preset whatever it is: 15 where none stands there, 11 where it names neither, else 0.
-pub(crate) fn note_fault(kind: Kind, bytes: &[u8], at: usize) -> u32
-    ensures { λ r. ⌜ ((l : ℕ) → pick (eqb r 0) (Decoded.Found (Command.Length l (getD (now (bytes .entry)) at 0)) (at + 1)) (Decoded.Refused r at) ≡
-        noteAfter kind (now (bytes .entry)) at l) ⌝ }
-{
-    if bytes.len() <= at {
-        return refusal::PAST_DATA;
+    // melodic, noise
+    let fault = note_fault(kind, bytes, at);
+    if fault != 0 {
+        return Rule::Invalid(fault);
     }
-    if is_note(kind, bytes[at]) {
-        return 0;
-    }
-    refusal::INVALID_NOTE
+    Rule::Note(b)
 }
 
 // BL's command, with the note in the next byte.

@@ -11,7 +11,7 @@ use Rattle.engine_base.specs.Refusal.{past-lengths, zero-length, no-length}
 use Rattle.metroid_format.specs.Bank.{lengths-size}
 use Rattle.metroid_format.specs.Command.{commandAt, noteAfter}
 use Rattle.metroid_format.specs.Channel.{sourceOf, lengthFault, lengthAt, playedOf, playedBy, playedAt, addressAt}
-use Rattle.metroid_format.proofs.command.Laws.{Stands, is-end, is-end-loop, is-begin, is-length, is-note, found, after-length, Noted, note-refused, note-found}
+use Rattle.metroid_format.proofs.command.Laws.{Stands, is-end, is-end-loop, is-begin, is-length, is-note, found, after-length, noteFault, note-refused, note-found}
 use Rattle.metroid_format.specs.declared.command.Kind.{Kind}
 use Rattle.metroid_format.specs.declared.command.Command.{Command}
 use Rattle.metroid_format.specs.declared.command.Decoded.{Decoded}
@@ -66,7 +66,7 @@ module _ (kind : Kind) (bytes lengths : List ℕ) (window start at : ℕ) (curre
     plays-fault z = rw (e, ← q, ne-eqb f 0 z)
 
     -- r is what `note_fault` answers of its next byte
-    module _ (z : f ≡ 0) (r : ℕ) (t : Noted kind bytes (at + 1) r) where
+    module _ (z : f ≡ 0) (r : ℕ) (t : r ≡ noteFault kind bytes (at + 1)) where
       after : (d : Decoded) → d ≡ noteAfter kind bytes (at + 1) l → Says (played d)
       unfolding playedAt
       after d g = rw (e, ← q, eq-eqb f 0 z, ← (after-length kind bytes at h l s e), ← g)

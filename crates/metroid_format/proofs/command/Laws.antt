@@ -103,28 +103,52 @@ word-there (is-begin n s h e) = one-byte _ _ h ∙ e
 word-there (is-length l note s y h e g) = two-bytes _ _ h ∙ rw (e, g)
 word-there (is-note b p s y h e) = one-byte _ _ h ∙ e
 
--- r is what `note_fault` answers
-abbrev pub Noted : Kind → List ℕ → ℕ → ℕ → Type 0
-Noted kind bytes at r = (l : ℕ) → pick (eqb r 0) (Found (Length l (getD bytes at 0)) (at + 1)) (Refused r at) ≡ noteAfter kind bytes at l
+-- what `note_fault` answers: of no byte, of a key or preset, of any other
+abbrev pub noteFault : Kind → List ℕ → ℕ → ℕ
+noteFault kind bytes at = pick (leb (length bytes) at) past-data (pick (isNote kind (getD bytes at 0)) 0 invalid-note)
 
-module _ (kind : Kind) (bytes : List ℕ) (at r : ℕ) (q : Noted kind bytes at r) where
+data Noted (kind : Kind) (bytes : List ℕ) (at : ℕ) : ℕ → Type 0 where
+  missing : length bytes ≤ at → Noted kind bytes at past-data
+  named : at < length bytes → isNote kind (getD bytes at 0) ≡ true → Noted kind bytes at 0
+  unnamed : at < length bytes → isNote kind (getD bytes at 0) ≡ false → Noted kind bytes at invalid-note
+
+noted : (kind : Kind) (bytes : List ℕ) (at r : ℕ) → r ≡ noteFault kind bytes at → Noted kind bytes at r
+noted kind bytes at r q =
+    subst (Noted kind bytes at) (sym q)
+    (by-test (Noted kind bytes at) (leb (length bytes) at) (λ n. missing (leb-true _ _ n))
+    (λ n. by-test (Noted kind bytes at) (isNote kind (getD bytes at 0)) (λ y. named (leb-false _ _ n) y) (λ y. unnamed (leb-false _ _ n) y)))
+
+module _ (kind : Kind) (bytes : List ℕ) (at r : ℕ) (q : r ≡ noteFault kind bytes at) where
   pub note-refused : (r ≡ 0 → ⊥) → (l : ℕ) → Refused r at ≡ noteAfter kind bytes at l
-  note-refused z l = rw (ne-eqb r 0 z) at (q l)
+  unfolding noteAfter
+  note-refused z l = go r (noted kind bytes at r q) z
+    where
+      go : (n : ℕ) → Noted kind bytes at n → (n ≡ 0 → ⊥) → Refused n at ≡ noteAfter kind bytes at l
+      go _ (missing h) z = search picks depth 8
+      go _ (named h y) z = absurd (z refl)
+      go _ (unnamed h y) z = search picks depth 8
+
+  -- where a byte stands
+  pub note-unnamed : at < length bytes → (r ≡ 0 → ⊥) → (r ≡ invalid-note) × (isNote kind (getD bytes at 0) ≡ false)
+  note-unnamed h z = go r (noted kind bytes at r q) z
+    where
+      go : (n : ℕ) → Noted kind bytes at n → (n ≡ 0 → ⊥) → (n ≡ invalid-note) × (isNote kind (getD bytes at 0) ≡ false)
+      go _ (missing i) z = absurd (omega arith)
+      go _ (named i y) z = absurd (z refl)
+      go _ (unnamed i y) z = (refl, y)
 
   module _ (z : r ≡ 0) where
+    named-by : (n : ℕ) → Noted kind bytes at n → n ≡ 0 → (at < length bytes) × (isNote kind (getD bytes at 0) ≡ true)
+    named-by _ (missing h) e = absurd (omega arith)
+    named-by _ (named h y) e = (h, y)
+    named-by _ (unnamed h y) e = absurd (omega arith)
+
+    pub note-there : (at < length bytes) × (isNote kind (getD bytes at 0) ≡ true)
+    note-there = named-by r (noted kind bytes at r q) z
+
     pub note-found : (l : ℕ) → Found (Length l (getD bytes at 0)) (at + 1) ≡ noteAfter kind bytes at l
-    note-found l = rw (eq-eqb r 0 z) at (q l)
-
-    there-by : (b : Bool) → leb (length bytes) at ≡ b → at < length bytes
     unfolding noteAfter
-    there-by true e =
-        let f : Found (Length 0 (getD bytes at 0)) (at + 1) ≡ Refused past-data at = note-found 0 ∙ simp e in
-        let k : _≡_ {A = ℕ} 0 1 = cc in
-        absurd (omega arith)
-    there-by false e = leb-false (length bytes) at e
-
-    pub note-there : at < length bytes
-    note-there = there-by (leb (length bytes) at) refl
+    note-found l = let (h, y) = note-there in search picks depth 8
 
 module _ (kind : Kind) (bytes : List ℕ) (at : ℕ) where
   after-right : at < length bytes → getD bytes at 0 / 16 ≡ 0x0b → Right kind bytes at (noteAfter kind bytes (at + 1) (getD bytes at 0 % 16))

@@ -9,6 +9,6 @@ note-after-spec =
     (tie.spec
     (λ c κs. search needs)
     (λ c. search note-refused depth 8)
-    (λ c. let h = note-there _ _ _ _ (c .before .before .note-fault .ensures) (c .before .if1 .left) in search needs)
-    (λ c. let h = note-there _ _ _ _ (c .before .before .note-fault .ensures) (c .before .if1 .left) in search needs)
+    (λ c. let a = c .before .before .before .before .args in let h = note-there (a .kind) (a .bytes .now) (a .at) _ (c .before .before .note-fault .ensures) (c .before .if1 .left) .0 in search needs)
+    (λ c. let a = c .before .before .before .before .args in let h = note-there (a .kind) (a .bytes .now) (a .at) _ (c .before .before .note-fault .ensures) (c .before .if1 .left) .0 in search needs)
     (λ c. search note-found depth 8))
