@@ -1,4 +1,6 @@
 // Reads a bank and prints the verdict of each track, with the published places.
+#![tactic(auto)]
+
 ghost use Rattle.std.specs.Prelude.{◌≤◌, ◌≡◌, length, take};
 ghost use Rattle.io.specs.Counts.{IsPrefixLen};
 ghost use Rattle.metroid_format.specs.Bank.{published};

@@ -1,4 +1,6 @@
 // What a host written in C links: the calls that include/hemgosling.h declares.
+#![tactic(auto)]
+
 pub mod judge;
 pub mod mend;
 pub mod mother_judge;

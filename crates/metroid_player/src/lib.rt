@@ -1,4 +1,6 @@
 // The player: a track of a lent bank, frame by frame.
+#![tactic(auto)]
+
 mod ctrl1;
 pub mod event;
 pub mod frame;

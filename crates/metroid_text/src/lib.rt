@@ -1,4 +1,6 @@
 // Verdicts and answers as lines of text, into lent buffers.
+#![tactic(auto)]
+
 pub mod answer;
 mod decimal;
 mod hex;

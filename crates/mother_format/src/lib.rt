@@ -1,4 +1,6 @@
 // The Mother music format: two banks and their headers, playlists, a block's bytes as commands, and what each of them does.
+#![tactic(auto)]
+
 pub mod bank;
 pub mod channel;
 pub mod command;

@@ -1,5 +1,7 @@
 // Reads two banks, one after the other, and prints the verdict of each low track and then of each high one, with the
 // published places.
+#![tactic(auto)]
+
 ghost use Rattle.std.specs.Prelude.{◌≤◌, ◌≡◌, length, take};
 ghost use Rattle.io.specs.Counts.{IsPrefixLen};
 ghost use Rattle.metroid_text.specs.Line.{line_most};

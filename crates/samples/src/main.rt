@@ -1,4 +1,6 @@
 // Prints what the library makes of the samples that are not proved, and of the published examples.
+#![tactic(auto)]
+
 mod examples;
 mod print;
 mod straight;

@@ -1,5 +1,7 @@
 // Plays the stored banks: for each its name, then for each track a line with its number and verdict, one with the number that
 // start answers, and one for each frame's answer (metroid_text::answer).
+#![tactic(auto)]
+
 ghost use Rattle.std.specs.Prelude.{◌≤◌, ◌≡◌, length, take};
 ghost use Rattle.io.specs.Counts.{IsPrefixLen};
 ghost use Rattle.metroid_text.specs.Line.{line_most};
