@@ -3,7 +3,7 @@ ghost use Rattle.std.specs.Prelude.{◌≡◌};
 ghost use Rattle.engine_base.specs.Pick.{pick};
 ghost use Rattle.engine_base.specs.Answer.{answer_number, answer_kind};
 
-#[derive(Drop)]
+#[derive(Clone, Copy)]
 pub enum Answer {
     Events,
     End,

@@ -7,7 +7,7 @@ use crate::time::{Frames, QuarterFrames};
 // Never, where a release is told as a number.
 const NEVER: u32 = 255;
 
-#[derive(Drop)]
+#[derive(Clone, Copy)]
 pub enum Release {
     After(QuarterFrames),
     Never,

@@ -3,13 +3,13 @@ ghost use Rattle.std.specs.Prelude.{◌≡◌, ◌-◌};
 
 // Note lengths count frames.
 #[repr(C)]
-#[derive(Drop)]
+#[derive(Clone, Copy)]
 pub struct Frames {
     pub count: u8,
 }
 
 // The triangle's release counts quarter-frames.
-#[derive(Drop)]
+#[derive(Clone, Copy)]
 pub struct QuarterFrames {
     pub count: u8,
 }

@@ -22,7 +22,7 @@ const EVENTS: usize = 8;
 const EVENT_WORDS: usize = 6;
 
 // A frame's number, and the next record.
-#[derive(Drop)]
+#[derive(Clone, Copy)]
 pub struct Stepped {
     pub number: u32,
     pub player: Player,

@@ -25,7 +25,7 @@ const EVENTS: usize = 9;
 const EVENT_WORDS: usize = 5;
 
 // A frame's number, and the next record.
-#[derive(Drop)]
+#[derive(Clone, Copy)]
 pub struct Stepped {
     pub number: u32,
     pub player: Player,

@@ -8,7 +8,7 @@ use metroid_format::bank::Places;
 use metroid_format::timeline::{Finish, Soonest};
 use metroid_format::{header, timeline};
 
-#[derive(Drop)]
+#[derive(Clone, Copy)]
 pub enum Verdict {
     // the frame of the first end, and the channel that meets it
     Pass(u32, usize),

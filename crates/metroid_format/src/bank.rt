@@ -14,7 +14,7 @@ pub const PRESETS_SIZE: usize = 13;
 pub const ENVELOPES_SIZE: usize = 10;
 
 // Addresses, a number of tracks, and the default ctrl 1 byte of squares 1 and 2.
-#[derive(Drop)]
+#[derive(Clone, Copy)]
 pub struct Places {
     pub header_offsets: u32,
     pub header_block: u32,

@@ -13,7 +13,7 @@ use engine_base::{address, bytes, loops, refusal};
 // More commands than reading until a note can take.
 const FUEL: u32 = (DATA_LIMIT / 2 * 257 + 2) as u32;
 
-#[derive(Drop)]
+#[derive(Clone, Copy)]
 pub struct Cursor {
     pub next: u16,
     // the byte after the last begin
@@ -24,7 +24,7 @@ pub struct Cursor {
 }
 
 // What a command does before loops are considered, with the offset after it.
-#[derive(Drop)]
+#[derive(Clone, Copy)]
 pub enum Played {
     End,
     EndLoop(u16),
@@ -38,7 +38,7 @@ pub enum Played {
     Refused(u32, u16, u32),
 }
 
-#[derive(Drop)]
+#[derive(Clone, Copy)]
 pub enum Step {
     Again(Cursor),
     Note(u8, Cursor),
@@ -46,7 +46,7 @@ pub enum Step {
     Refused(u32, u16, u32),
 }
 
-#[derive(Drop)]
+#[derive(Clone, Copy)]
 pub enum Stop {
     Note(u8),
     End,
@@ -54,7 +54,7 @@ pub enum Stop {
 }
 
 // Where reading stopped, the commands read, and the cursor: after a note, else at the stopping command.
-#[derive(Drop)]
+#[derive(Clone, Copy)]
 pub struct Until {
     pub stop: Stop,
     pub count: u32,

@@ -11,14 +11,14 @@ use engine_base::{field, refusal};
 pub const DATA_LIMIT: usize = 256;
 
 // Squares and triangle play keys, the noise channel presets.
-#[derive(Drop)]
+#[derive(Clone, Copy)]
 pub enum Kind {
     Melodic,
     Noise,
 }
 
 // A note is its byte: a key, a preset or a rest.
-#[derive(Drop)]
+#[derive(Clone, Copy)]
 pub enum Command {
     End,
     EndLoop,
@@ -30,7 +30,7 @@ pub enum Command {
 }
 
 // What a byte says where a command stands.
-#[derive(Drop)]
+#[derive(Clone, Copy)]
 pub(crate) enum Rule {
     End,
     EndLoop,
@@ -44,14 +44,14 @@ pub(crate) enum Rule {
 }
 
 // How straight reading of channel data comes to a stop.
-#[derive(Drop)]
+#[derive(Clone, Copy)]
 pub enum Finish {
     End,
     // the number of the refusal and the offset of the byte
     Refused(u32, usize),
 }
 
-#[derive(Drop)]
+#[derive(Clone, Copy)]
 pub enum Decoded {
     // the command and the offset after it
     Found(Command, usize),

@@ -36,7 +36,7 @@ const HEADER_SIZE: usize = 13;
 const LAST_ENVELOPE: u8 = 5;
 
 // A channel as the header has it, with offsets in the bank. An unused one has nothing but its kind.
-#[derive(Drop)]
+#[derive(Clone, Copy)]
 pub struct Voice {
     pub used: bool,
     pub kind: Kind,
@@ -48,7 +48,7 @@ pub struct Voice {
 }
 
 // A header, and the offsets of the tables in the bank.
-#[derive(Drop)]
+#[derive(Clone, Copy)]
 pub struct Track {
     pub window: u8,
     pub restart: bool,
@@ -61,7 +61,7 @@ pub struct Track {
     pub voices: [Voice; 4],
 }
 
-#[derive(Drop)]
+#[derive(Clone, Copy)]
 pub struct Opened {
     // 0, or that of the refusal
     pub number: u32,

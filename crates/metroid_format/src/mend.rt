@@ -7,7 +7,7 @@ use crate::command;
 use crate::command::{DATA_LIMIT, Decoded, Kind};
 use engine_base::{buffer, bytes, refusal};
 
-#[derive(Drop)]
+#[derive(Clone, Copy)]
 pub enum Mending {
     // how many bytes were changed
     Mended(usize),
@@ -16,7 +16,7 @@ pub enum Mending {
 }
 
 // How reading goes on behind a command.
-#[derive(Drop)]
+#[derive(Clone, Copy)]
 enum Passing {
     End,
     // the offset after it

@@ -15,21 +15,21 @@ use engine_base::time::Frames;
 use engine_base::{bytes, refusal};
 
 // How a channel by itself comes to a stop.
-#[derive(Drop)]
+#[derive(Clone, Copy)]
 pub enum Finish {
     End,
     // the number of the refusal, the offset of the byte and its address
     Refused(u32, u16, u32),
 }
 
-#[derive(Drop)]
+#[derive(Clone, Copy)]
 pub struct Timeline {
     pub frames: u32,
     pub finish: Finish,
 }
 
 // Where the pass stands, and the body of the last begun loop so far.
-#[derive(Drop)]
+#[derive(Clone, Copy)]
 struct Pass {
     pub next: u16,
     pub length: Frames,
@@ -42,14 +42,14 @@ struct Pass {
     pub frames: u32,
 }
 
-#[derive(Drop)]
+#[derive(Clone, Copy)]
 enum Passed {
     On(Pass),
     Finished(Finish),
 }
 
 // The stop that comes first of those looked at.
-#[derive(Drop)]
+#[derive(Clone, Copy)]
 pub enum Soonest {
     Nothing,
     // the frame, the channel and how it stops

@@ -9,7 +9,7 @@ use crate::command;
 use crate::command::{Command, DATA_LIMIT, Decoded, Finish, Kind};
 use engine_base::{buffer, bytes, refusal};
 
-#[derive(Drop)]
+#[derive(Clone, Copy)]
 pub enum Reading {
     // how many words were written
     Wrote(usize),
@@ -18,7 +18,7 @@ pub enum Reading {
     NoRoom,
 }
 
-#[derive(Drop)]
+#[derive(Clone, Copy)]
 pub enum Writing {
     // how many bytes were written
     Wrote(usize),
@@ -26,21 +26,21 @@ pub enum Writing {
     NoRoom,
 }
 
-#[derive(Drop)]
+#[derive(Clone, Copy)]
 struct Decoding {
     count: usize,
     finish: Finish,
 }
 
 // Of a word's command.
-#[derive(Drop)]
+#[derive(Clone, Copy)]
 struct Size {
     // 0 where reading never gives the word
     bytes: usize,
     end: bool,
 }
 
-#[derive(Drop)]
+#[derive(Clone, Copy)]
 struct Encoding {
     count: usize,
     valid: bool,

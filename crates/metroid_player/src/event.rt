@@ -13,7 +13,7 @@ use metroid_format::bank;
 use metroid_format::command::Kind;
 use metroid_format::header::{Track, Voice};
 
-#[derive(Drop)]
+#[derive(Clone, Copy)]
 pub enum Sound {
     Off,
     // ctrl 1
@@ -28,7 +28,7 @@ pub enum Sound {
     Noise(u8, u8, u8),
 }
 
-#[derive(Drop)]
+#[derive(Clone, Copy)]
 pub struct Event {
     // in this frame
     pub began: bool,

@@ -21,7 +21,7 @@ use metroid_format::timeline::Soonest;
 use metroid_format::{bank, channel, header, timeline};
 
 // What a channel does in a frame.
-#[derive(Drop)]
+#[derive(Clone, Copy)]
 pub enum Turned {
     // unused
     Off,
@@ -31,7 +31,7 @@ pub enum Turned {
     Refused(u32, u16, u32),
 }
 
-#[derive(Drop)]
+#[derive(Clone, Copy)]
 pub struct Turn {
     pub turned: Turned,
     // a note, in this frame
@@ -42,7 +42,7 @@ pub struct Turn {
     pub count: u32,
 }
 
-#[derive(Drop)]
+#[derive(Clone, Copy)]
 pub struct Framed {
     pub answer: Answer,
     pub events: [Event; 4],
@@ -52,7 +52,7 @@ pub struct Framed {
     pub player: Player,
 }
 
-#[derive(Drop)]
+#[derive(Clone, Copy)]
 pub struct Started {
     // 0, or that of the refusal
     pub number: u32,

@@ -8,7 +8,7 @@ use metroid_format::command;
 use metroid_format::header::Voice;
 
 #[repr(C)]
-#[derive(Drop)]
+#[derive(Clone, Copy)]
 pub struct Channel {
     pub next: u16,
     pub loop_start: u16,
@@ -20,7 +20,7 @@ pub struct Channel {
 }
 
 #[repr(C)]
-#[derive(Drop)]
+#[derive(Clone, Copy)]
 pub struct Player {
     // any value but 0 is the stopped mark
     pub stopped: u8,

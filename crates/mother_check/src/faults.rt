@@ -14,13 +14,13 @@ use mother_format::header::Voice;
 use mother_format::{bank, command, straight};
 
 // Where a fault stands: the channel, and the playlist's place.
-#[derive(Drop)]
+#[derive(Clone, Copy)]
 pub struct Site {
     pub channel: u32,
     pub place: u32,
 }
 
-#[derive(Drop)]
+#[derive(Clone, Copy)]
 pub struct Fault {
     pub number: u32,
     pub channel: u32,
@@ -31,7 +31,7 @@ pub struct Fault {
     pub address: u32,
 }
 
-#[derive(Drop)]
+#[derive(Clone, Copy)]
 pub enum First {
     Nothing,
     Fault(Fault),
@@ -60,7 +60,7 @@ fn end_fault(site: Site, noted: bool, at: u16) -> First
 }
 
 // A block's first fault, or whether a length stands before its end in playing order.
-#[derive(Drop)]
+#[derive(Clone, Copy)]
 pub enum BlockRead {
     Faulty(Fault),
     Clean(bool),

@@ -4,7 +4,7 @@ ghost use Rattle.mother_check.specs.Reading.{passed};
 
 use mother_format::command::Command;
 
-#[derive(Drop)]
+#[derive(Clone, Copy)]
 pub struct Progress {
     // a note or rest, in the block
     pub noted: bool,

@@ -13,7 +13,7 @@ use mother_format::{bank, channel, command, straight, transpose};
 // So many length indexes has BL.
 pub(crate) const INDEXES: usize = 16;
 
-#[derive(Drop)]
+#[derive(Clone, Copy)]
 pub struct Extremes {
     // transpose bytes, by their amount
     pub low: u8,

@@ -8,7 +8,7 @@ use crate::{faults, settings};
 use mother_format::bank::Places;
 use mother_format::header;
 
-#[derive(Drop)]
+#[derive(Clone, Copy)]
 pub enum Verdict {
     Pass,
     // 1 to 4, 8, 9 and 19, of banks, places, track number and header

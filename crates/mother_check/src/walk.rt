@@ -14,7 +14,7 @@ pub(crate) const ADDRESSES: usize = 16384;
 pub(crate) const MOST_WORDS: u32 = 4210945;
 
 // Where a word stands.
-#[derive(Drop)]
+#[derive(Clone, Copy)]
 pub struct Spot {
     // its address
     pub list: u16,
@@ -25,7 +25,7 @@ pub struct Spot {
 }
 
 // What it says.
-#[derive(Drop)]
+#[derive(Clone, Copy)]
 pub enum Word {
     // the playlist's end, or a goto to where one has led before
     Done,

@@ -19,7 +19,7 @@ pub const PRESETS_SIZE: usize = 31;
 pub const ENVELOPES_SIZE: usize = 54;
 
 // Addresses, and a number of tracks.
-#[derive(Drop)]
+#[derive(Clone, Copy)]
 pub struct Places {
     pub header_offsets: u32,
     pub header_block: u32,
@@ -31,7 +31,7 @@ pub struct Places {
 }
 
 // The cartridge's two sets of tracks.
-#[derive(Drop)]
+#[derive(Clone, Copy)]
 pub enum Tracks {
     Low,
     High,

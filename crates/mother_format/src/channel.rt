@@ -29,7 +29,7 @@ use engine_base::time::Frames;
 use engine_base::{address, field, loops, refusal};
 
 // What holds for all channels.
-#[derive(Drop)]
+#[derive(Clone, Copy)]
 pub struct Setting {
     // nmmm mmmm
     pub transpose: u8,
@@ -37,7 +37,7 @@ pub struct Setting {
 }
 
 // A place in a block.
-#[derive(Drop)]
+#[derive(Clone, Copy)]
 pub struct Cursor {
     pub next: u16,
     // the byte after the last begin
@@ -46,7 +46,7 @@ pub struct Cursor {
 }
 
 // What a command does before loops are considered, with the offset after it.
-#[derive(Drop)]
+#[derive(Clone, Copy)]
 pub enum Played {
     // of the block
     End,

@@ -6,7 +6,7 @@ ghost use Rattle.mother_format.specs.Command.{is_key, is_preset, is_note, melodi
 use engine_base::{field, refusal};
 
 // Squares and triangle play keys, the noise channel presets.
-#[derive(Drop)]
+#[derive(Clone, Copy)]
 pub enum Kind {
     Square,
     Triangle,
@@ -14,7 +14,7 @@ pub enum Kind {
 }
 
 // What a command's first byte says.
-#[derive(Drop)]
+#[derive(Clone, Copy)]
 pub enum Rule {
     End,
     Transpose,
@@ -31,7 +31,7 @@ pub enum Rule {
 }
 
 // A note is its byte: a key byte, a preset or a rest.
-#[derive(Drop)]
+#[derive(Clone, Copy)]
 pub enum Command {
     End,
     // nmmm mmmm
@@ -47,7 +47,7 @@ pub enum Command {
     Note(u8),
 }
 
-#[derive(Drop)]
+#[derive(Clone, Copy)]
 pub enum Decoded {
     // the command and the offset after it
     Found(Command, usize),

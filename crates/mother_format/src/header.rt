@@ -29,7 +29,7 @@ use engine_base::{address, refusal};
 const HEADER_SIZE: usize = 10;
 
 // A channel as the header has it. An unused one has nothing but its kind.
-#[derive(Drop)]
+#[derive(Clone, Copy)]
 pub struct Voice {
     pub used: bool,
     pub kind: Kind,
@@ -37,7 +37,7 @@ pub struct Voice {
     pub list: u16,
 }
 
-#[derive(Drop)]
+#[derive(Clone, Copy)]
 pub struct Track {
     // nmmm mmmm
     pub transpose: u8,
@@ -46,7 +46,7 @@ pub struct Track {
     pub voices: [Voice; 4],
 }
 
-#[derive(Drop)]
+#[derive(Clone, Copy)]
 pub struct Opened {
     // 0, or that of the refusal
     pub number: u32,

@@ -10,7 +10,7 @@ use engine_base::address;
 // So many block words may stand in a row.
 const ROW_LIMIT: u16 = 256;
 
-#[derive(Drop)]
+#[derive(Clone, Copy)]
 pub enum Entry {
     End,
     // the address of the word that it leads to

@@ -8,7 +8,7 @@ use crate::command::{Command, Decoded, Kind};
 use engine_base::refusal;
 
 // Where reading stops.
-#[derive(Drop)]
+#[derive(Clone, Copy)]
 pub enum Finish {
     // the offset of the 00
     End(usize),
@@ -17,7 +17,7 @@ pub enum Finish {
 }
 
 // The notes and rests up to there.
-#[derive(Drop)]
+#[derive(Clone, Copy)]
 pub struct Reading {
     pub notes: usize,
     pub finish: Finish,

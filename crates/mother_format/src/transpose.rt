@@ -11,7 +11,7 @@ pub const LAST_KEY: u8 = 0x84;
 const LAST_SUM: i16 = LAST_KEY as i16;
 
 // What a note sounds, of its channel's key bytes or presets.
-#[derive(Drop)]
+#[derive(Clone, Copy)]
 pub enum Sounding {
     Byte(u8),
     Outside,

@@ -15,7 +15,7 @@ use mother_format::bank::Places;
 use mother_format::command::Kind;
 use mother_format::{bank, transpose};
 
-#[derive(Drop)]
+#[derive(Clone, Copy)]
 pub enum Sound {
     Off,
     // ctrl 1, pitch envelope
@@ -32,7 +32,7 @@ pub enum Sound {
     Noise(u8, u8, u8, u8),
 }
 
-#[derive(Drop)]
+#[derive(Clone, Copy)]
 pub struct Event {
     // in this frame
     pub began: bool,

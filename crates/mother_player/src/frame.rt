@@ -15,7 +15,7 @@ use mother_format::channel::Setting;
 use mother_format::header;
 use mother_format::header::{Track, Voice};
 
-#[derive(Drop)]
+#[derive(Clone, Copy)]
 pub struct Framed {
     pub answer: Answer,
     pub events: [Event; 4],
@@ -23,7 +23,7 @@ pub struct Framed {
     pub player: Player,
 }
 
-#[derive(Drop)]
+#[derive(Clone, Copy)]
 pub struct Started {
     // 0, or that of the refusal
     pub number: u32,

@@ -33,7 +33,7 @@ use mother_format::{channel, playlist};
 const MOST_COMMANDS: u32 = 100000;
 
 // Where a channel's next command stands.
-#[derive(Drop)]
+#[derive(Clone, Copy)]
 pub enum Place {
     Block,
     // the playlist's next word
@@ -43,7 +43,7 @@ pub enum Place {
 }
 
 // A channel while it reads.
-#[derive(Drop)]
+#[derive(Clone, Copy)]
 pub struct Reader {
     pub place: Place,
     pub channel: Channel,
@@ -52,7 +52,7 @@ pub struct Reader {
 }
 
 // What a command does.
-#[derive(Drop)]
+#[derive(Clone, Copy)]
 pub enum Stepped {
     Again,
     // a key, rest or preset
@@ -64,14 +64,14 @@ pub enum Stepped {
 }
 
 // With the channel after it.
-#[derive(Drop)]
+#[derive(Clone, Copy)]
 pub struct Step {
     pub stepped: Stepped,
     pub reader: Reader,
 }
 
 // What a channel does in a frame.
-#[derive(Drop)]
+#[derive(Clone, Copy)]
 pub enum Turned {
     // unused
     Off,
@@ -80,7 +80,7 @@ pub enum Turned {
     Refused(u32, u16, u32),
 }
 
-#[derive(Drop)]
+#[derive(Clone, Copy)]
 pub struct Turn {
     pub turned: Turned,
     // a note, in this frame

@@ -9,7 +9,7 @@ use mother_format::header::Voice;
 use mother_format::{bank, command, envelope, transpose};
 
 #[repr(C)]
-#[derive(Drop)]
+#[derive(Clone, Copy)]
 pub struct Channel {
     // the address of the playlist's next word
     pub list: u16,
@@ -33,7 +33,7 @@ pub struct Channel {
 }
 
 #[repr(C)]
-#[derive(Drop)]
+#[derive(Clone, Copy)]
 pub struct Player {
     // any value but 0 is the stopped mark
     pub stopped: u8,

@@ -16,7 +16,7 @@ const HEADER: usize = 0xbd31;
 const DATA: usize = 0x9000;
 
 // What is shown of a run's frames.
-#[derive(Drop)]
+#[derive(Clone, Copy)]
 enum View {
     // the notes and rests of the triangle where they begin
     Beginnings,
