@@ -11,7 +11,7 @@ use Rattle.mother_format.specs.Channel.{Source, played_at, go_to, moved_by}
 use Rattle.engine_base.proofs.Picks.{by-test}
 use Rattle.engine_base.proofs.loops.Bound.{counter_bound, full, Mark, begins, ends, passes, Moves, begin, pass, go_on, go_back, Row, none, then, fresh_bound, any_bound}
 use Rattle.mother_format.proofs.command.Laws.{stands}
-use Rattle.mother_format.proofs.channel.Plays.{Plays, transposes, windows, ends_loop, begins_loop, sets_timbre, plays}
+use Rattle.mother_format.proofs.channel.Plays.{Plays, transposes, windows, ends_loop, begins_loop, sets_timbre, plays, ends_block, sets_length, notes, refuses}
 use Rattle.mother_format.specs.declared.command.Command.{Command}
 use Rattle.mother_format.specs.declared.command.Decoded.{Decoded}
 use Rattle.mother_format.specs.declared.channel.Setting.{Setting}
@@ -122,6 +122,13 @@ module _ (source : Source) where
   moved_past {cursor} setting frames (sets_timbre x c next e) (by_timbre _ _ _) =
       let (size, near, small) = stands source.kind source.bytes cursor.next e in
       record { start = refl; counter = refl; on = omega arith }
+
+  moved_past {cursor} setting frames (ends_block _ _) o = elim o [ ]
+  moved_past {cursor} setting frames (ends_loop next _) o = elim o [ ]
+  moved_past {cursor} setting frames (begins_loop n counter next _ _) o = elim o [ ]
+  moved_past {cursor} setting frames (sets_length l b sound next long _ _ _) o = elim o [ ]
+  moved_past {cursor} setting frames (notes b sound next _ _ _) o = elim o [ ]
+  moved_past {cursor} setting frames (refuses number offset _ _) o = elim o [ ]
 
   pub read_once : {cursor last : Cursor} {n : ℕ} → Passing cursor n last → Once cursor n last
   read_once none_yet = record { start = refl; counter = refl; on = omega arith }

@@ -15,9 +15,9 @@ use Rattle.engine_base.proofs.address.Inside.{inside}
 use Rattle.mother_format.specs.Playlist.{row_limit, goto_at, entry_at}
 use Rattle.mother_format.specs.declared.playlist.Entry.{Entry}
 
-pub list_fits : (list : ℕ) (r : Bool) → r ≡ within list 2 → not r ≡ false → Fits w16 (list + 2)
+pub list_fits : (list : ℕ) (r : Bool) → r ≡ within list 2 → r ≡ true → Fits w16 (list + 2)
 list_fits list r e t =
-    let (first, last) = inside list 2 (sym e ∙ not-false r t) in
+    let (first, last) = inside list 2 (sym e ∙ t) in
     record { fits = omega arith }
 
 -- a goto and a block word name an address in the banks, and too few block words came before the latter in its row

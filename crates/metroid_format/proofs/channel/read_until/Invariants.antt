@@ -1,0 +1,22 @@
+use Prim.Native.Nat.{ℕ, ◌-◌, ◌≤◌}
+use mathlib.Core.Path.{◌≡◌, refl, ap, ◌∙◌}
+use native.Mathlib.Omega.{arith}
+use borrow.Author.Rules.{rules}
+use lib.ListN.{length, length-take}
+use Rattle.engine_base.specs.Address.{address_of}
+use Rattle.metroid_format.specs.Command.{data_limit}
+use Rattle.metroid_format.specs.Channel.{source_of, fuel_of, read_from, read_until}
+use Rattle.metroid_format.proofs.channel.ReadSteps.{read_turn, read_none, read_cut}
+use Rattle.metroid_format.proofs.channel.read_until.Given as goal
+
+abbrev pub fuel : ℕ
+fuel = fuel_of data_limit
+
+-- the rest, read from here, gives the whole
+abbrev pub invariant-loop-count : goal.invariant-loop-count
+invariant-loop-count l = (l.count ≤ fuel) ×
+    (read_from (source_of l.kind l.data l.lengths l.window (address_of l.base)) (fuel - l.count) l.cursor l.count ≡
+    read_until data_limit (source_of l.kind l.data l.lengths l.window (address_of l.base)) l.initial.cursor)
+
+abbrev pub decreases-loop-count : goal.decreases-loop-count
+decreases-loop-count l = fuel - l.count

@@ -1,0 +1,20 @@
+use borrow.Author.Rules.{rules}
+use Rattle.metroid_format.specs.Header.{addresses_fit}
+use Rattle.engine_base.proofs.Picks.{guards}
+use Rattle.metroid_format.proofs.header.addresses_fit.Goals as goal
+
+pub returns-then-not-address_fits : goal.returns-then-not-address_fits
+unfolding addresses_fit
+returns-then-not-address_fits c = search guards depth 20
+
+pub returns-then-not-address_fits-2 : goal.returns-then-not-address_fits-2
+unfolding addresses_fit
+returns-then-not-address_fits-2 c = search guards depth 20
+
+pub returns-then-not-address_fits-3 : goal.returns-then-not-address_fits-3
+unfolding addresses_fit
+returns-then-not-address_fits-3 c = search guards depth 20
+
+pub returns : goal.returns
+unfolding addresses_fit
+returns c = search guards depth 20

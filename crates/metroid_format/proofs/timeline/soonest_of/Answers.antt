@@ -1,0 +1,17 @@
+use Prim.Native.Nat.{◌-◌}
+use mathlib.Core.Path.{refl}
+use native.Mathlib.Omega.{arith}
+use borrow.Author.Rules.{rules}
+use lib.ListN.{length-map}
+use Rattle.engine_base.proofs.Picks.{answers}
+use Rattle.metroid_format.proofs.timeline.FirstStop.{Looking, look_on, looked}
+use Rattle.metroid_format.proofs.timeline.soonest_of.Goals as goal
+
+pub loop-i-init : goal.loop-i-init
+loop-i-init c = record { within = search rules; four = c.well_formed.1.0.1.1.1.1.1.1.1.1.0.1.0.1; same = refl }
+
+pub loop-i-preserved : goal.loop-i-preserved
+loop-i-preserved c = search look_on depth 8
+
+pub returns : goal.returns
+returns c = answers _ _ _ (looked _ _ _ _ _ c.loop-i.invariant c.loop-i-test.false)
