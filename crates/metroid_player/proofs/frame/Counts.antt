@@ -89,7 +89,7 @@ module _ (bank : List ℕ) (track : Track) (extra : ℕ) (one : extra ≤ 1) whe
   settle_counts i [] cs p = tt
   settle_counts i (v ∷ vs) [] p = tt
   settle_counts i (v ∷ vs) (c ∷ cs) (p, ps) =
-      settle_by_most (most_commands + extra) bank track i v _ (turn_of bank track v c).turned _ (turn_count v c p)
+      settle_by_most (most_commands + extra) bank track i v (turn_of bank track v c) (turn_of bank track v c).turned _ (turn_count v c p)
       (settle_counts (i + 1) vs cs ps)
 
   -- every count of a frame

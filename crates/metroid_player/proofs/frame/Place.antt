@@ -75,7 +75,7 @@ module _ (bank : List ℕ) (track : Track) (start : ℕ → ℕ) where
   settle_within n i (v ∷ vs) (c ∷ cs) e (s, ss) f =
       by-test (λ b. b ≡ true → AnswerWithin start n (settle_from bank track i (v ∷ vs) (c ∷ cs)).answer) (channel_fits v c)
       (λ h rest.
-      by_turned n i v _ (turn_of bank track v c).turned _ (omega arith) (turn_within (start i) v c s h)
+      by_turned n i v (turn_of bank track v c) (turn_of bank track v c).turned _ (omega arith) (turn_within (start i) v c s h)
       (settle_within n (i + 1) vs cs (omega arith) ss rest))
       (λ _ z. absurd (false_true z)) f
 

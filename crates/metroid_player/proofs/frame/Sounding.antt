@@ -129,7 +129,7 @@ module _ (bank : List ℕ) (track : Track) where
         let same : j ≡ i = omega arith in
         rw same (first_plays i v c (settle_from bank track (i + 1) vs cs) u)
     settled_plays i j (v ∷ vs) (c ∷ cs) (suc k) e h u =
-        later_plays i j k v _ _ _ (turn_of bank track v c).turned (settle_from bank track (i + 1) vs cs)
+        later_plays i j k v _ _ (turn_of bank track v c) (turn_of bank track v c).turned (settle_from bank track (i + 1) vs cs)
         (settled_plays (i + 1) j vs cs k (omega arith) (omega arith) u)
 
   -- a frame from any record of four channels

@@ -5,7 +5,7 @@ use mathlib.Core.List.{List, ◌∷◌, ◌++◌}
 use mathlib.Core.Path.{◌≡◌, refl, sym, ◌∙◌}
 use native.Mathlib.Numerals.{add-one}
 use native.Mathlib.Omega.{arith}
-use borrow.Author.Tests.{le-leb, lt-leb, lt-ltb, le-ltb, eq-eqb, ne_eqb, ltb-true, ltb-false, not-true, not-false}
+use borrow.Author.Tests.{le-leb, lt-leb, lt-ltb, le-ltb, eq-eqb, ne_eqb, ltb-true, ltb-false}
 use lib.Dec.{leb, ltb}
 use lib.ListN.{length, take, drop, get_or, length-append, length-take, length-drop, drop_of_length-le}
 use lib.Seq.{drop-cons, get_or-take, get_or-drop}
@@ -84,15 +84,15 @@ module _ (bank : List ℕ) (at : ℕ) where
 
       -- r is what `holds` answers
       module _ (r : Bool) (q : r ≡ ltb (at + i) (length bank)) where
-        pub past_banks : not r ≡ true → (x : ℕ) → x ≡ default_ctrl1 d → x ≡ ctrl1_at d bytes index
-        past_banks t = past (cut i (ltb-false _ _ (sym q ∙ not-true r t)))
+        pub past_banks : r ≡ false → (x : ℕ) → x ≡ default_ctrl1 d → x ≡ ctrl1_at d bytes index
+        past_banks t = past (cut i (ltb-false _ _ (sym q ∙ t)))
 
         -- v is the byte
-        module _ (h : i < envelope_reach) (t : not r ≡ false) (v : ℕ) (b : v ≡ get_or bank (at + i) 0) where
+        module _ (h : i < envelope_reach) (t : r ≡ true) (v : ℕ) (b : v ≡ get_or bank (at + i) 0) where
           here : ctrl1_at d bytes index ≡ by_byte d v (pick (leb last i) (combined (half_of index v) d) (ctrl1_at d (drop (i + 1) bytes) (index - 2 * (i + 1))))
           here =
               sym m.same
-              ∙ envelope_turn d bytes index i (held i h (ltb-true _ _ (sym q ∙ not-false r t))) m.reached
+              ∙ envelope_turn d bytes index i (held i h (ltb-true _ _ (sym q ∙ t))) m.reached
               ∙ rw (byte_of i h, b, m.halved)
 
           pub silenced : v ≡ 0xf0 → silent ≡ ctrl1_at d bytes index
@@ -121,11 +121,11 @@ module _ (bank : List ℕ) (table : ℕ) (c : Channel) (x : ℕ) (e : x ≡ c.ti
 
   -- address is what `address_of` answers
   module _ (n : x ≡ 0 → ⊥) (address : ℕ) (a : address ≡ envelope_address bank table x) (f : Bool) (w : f ≡ within address 1) where
-    pub outside : not f ≡ true → (r : ℕ) → r ≡ default_ctrl1 c.ctrl → r ≡ note_ctrl1 bank table c
+    pub outside : f ≡ false → (r : ℕ) → r ≡ default_ctrl1 c.ctrl → r ≡ note_ctrl1 bank table c
     unfolding ctrl1_at envelope_of note_ctrl1
-    outside t r q = rw (← e, ne_eqb x 0 n, ← a, ← w, not-true f t) q
+    outside t r q = rw (← e, ne_eqb x 0 n, ← a, ← w, t) q
 
-    pub along_envelope : not f ≡ false → (at : ℕ) → at ≡ offset_of address → (index : ℕ) → index ≡ c.length.count - c.left.count →
+    pub along_envelope : f ≡ true → (at : ℕ) → at ≡ offset_of address → (index : ℕ) → index ≡ c.length.count - c.left.count →
         (r : ℕ) → r ≡ ctrl1_at c.ctrl (bytes bank at) index → r ≡ note_ctrl1 bank table c
     unfolding envelope_of note_ctrl1
-    along_envelope t at o index i r q = rw (← e, ne_eqb x 0 n, ← a, ← w, not-false f t, ← o, ← i) q
+    along_envelope t at o index i r q = rw (← e, ne_eqb x 0 n, ← a, ← w, t, ← o, ← i) q

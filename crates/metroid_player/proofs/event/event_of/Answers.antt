@@ -1,0 +1,5 @@
+use borrow.Author.Rules.{rules}
+use Rattle.metroid_player.proofs.event.event_of.Goals as goal
+
+pub returns : goal.returns
+returns c = rw c.sound_of-sound.ensures

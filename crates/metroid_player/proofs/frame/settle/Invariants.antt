@@ -1,0 +1,12 @@
+use Prim.Native.Nat.{◌-◌}
+use native.Mathlib.Omega.{arith}
+use borrow.Author.Rules.{rules}
+use lib.ListN.{length-map}
+use Rattle.metroid_player.proofs.frame.Laws.{Settling, settling_none, settling_off, settling_plays, settles_events, settles_end, settles_fault}
+use Rattle.metroid_player.proofs.frame.settle.Given as goal
+
+abbrev pub invariant-loop-i : goal.invariant-loop-i
+invariant-loop-i l = Settling l.bank l.track l.player l.events l.counts l.channels l.i
+
+abbrev pub decreases-loop-i : goal.decreases-loop-i
+decreases-loop-i l = 4 - l.i

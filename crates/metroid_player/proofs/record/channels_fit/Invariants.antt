@@ -1,0 +1,13 @@
+use Prim.Native.Nat.{◌-◌}
+use mathlib.Core.Path.{refl}
+use native.Mathlib.Omega.{arith}
+use borrow.Author.Rules.{rules}
+use Rattle.engine_base.proofs.Channels.{Fitting, fit_more, fit_not, fit_all}
+use Rattle.metroid_player.specs.Record.{channel_fits, channels_fit}
+use Rattle.metroid_player.proofs.record.channels_fit.Given as goal
+
+abbrev pub invariant-loop-i : goal.invariant-loop-i
+invariant-loop-i l = Fitting channels_fit l.voices l.channels l.i
+
+abbrev pub decreases-loop-i : goal.decreases-loop-i
+decreases-loop-i l = 4 - l.i

@@ -1,0 +1,5 @@
+use borrow.Author.Rules.{rules}
+use Rattle.metroid_player.proofs.record.fresh.Goals as goal
+
+pub returns : goal.returns
+returns c = rw c.fresh_channel-channel.ensures

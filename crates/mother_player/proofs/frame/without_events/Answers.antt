@@ -1,0 +1,5 @@
+use borrow.Author.Rules.{rules}
+use Rattle.mother_player.proofs.frame.without_events.Goals as goal
+
+pub returns : goal.returns
+returns c = rw c.off-off.ensures

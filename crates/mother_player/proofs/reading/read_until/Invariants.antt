@@ -1,0 +1,14 @@
+use Prim.Native.Nat.{◌-◌, ◌≤◌}
+use mathlib.Core.Path.{◌≡◌, refl, ◌∙◌}
+use native.Mathlib.Omega.{arith}
+use borrow.Author.Rules.{rules}
+use Rattle.mother_player.specs.Reading.{most_commands, read_from, read_until}
+use Rattle.mother_player.proofs.reading.Laws.{read_turn, read_none}
+use Rattle.mother_player.proofs.reading.read_until.Given as goal
+
+abbrev pub invariant-loop-count : goal.invariant-loop-count
+invariant-loop-count l = (l.count ≤ most_commands)
+    × (read_from l.bank8 l.banka l.places l.kind (most_commands - l.count) l.reader l.count ≡ read_until l.bank8 l.banka l.places l.kind l.initial.reader)
+
+abbrev pub decreases-loop-count : goal.decreases-loop-count
+decreases-loop-count l = most_commands - l.count
