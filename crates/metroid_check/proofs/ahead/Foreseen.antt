@@ -13,7 +13,7 @@ use Rattle.metroid_player.specs.declared.record.Player.{Player}
 use Rattle.engine_base.specs.declared.answer.Answer.{Answer}
 use Rattle.metroid_player.specs.declared.frame.Framed.{Framed}
 use Rattle.metroid_check.proofs.ahead.Framing.{InRun, FrameOfRun, events, ends, faults, frame_of_run}
-use Rattle.metroid_check.proofs.ahead.Settling.{Ahead, nothing, stop, Nearer, Due}
+use Rattle.metroid_check.proofs.ahead.Settling.{Ahead, none, nothing, stop, Nearer, Due}
 
 -- no stop of a list is before frame n
 abbrev pub NoneBefore : ℕ → List Ahead → Type 0
@@ -51,6 +51,7 @@ pub nearer_least : {now then : List Ahead} {n i : ℕ} {f : Finish} → Nearer n
 nearer_least (Nearer.unused d) (unused l) = let (m, e, k) = nearer_least d l in (m, e, unused k)
 nearer_least (Nearer.used d) (first h) = (_, refl, first (none_nearer _ d h))
 nearer_least (Nearer.used {n = m} d) (sooner h l) = let (k, e, s) = nearer_least d l in (k, e, sooner {m = m} {n = k} (omega arith) s)
+nearer_least none x4 = elim x4 [ ]
 
 -- what the frame of the least stop answers, and the record that it gives
 abbrev pub StopsAt : Track → Player → ℕ → Finish → Framed → Type 0

@@ -96,6 +96,7 @@ module _ (source : Source) (site : Site) where
       unrefused site played (none_both (fault_by site played) _ e).0
   command_clean (s ∷ ss) sized at e (there m) =
       command_clean ss sized at (none_both (fault_by site (played_at source s (length_by sized) at)) _ e).1 m
+  command_clean [] sized at {s = s} e x'' = elim x'' [ ]
 
   module _ (ss : List Setting) where
     abbrev Clean : ℕ → Progress → Straight → Type 0
@@ -306,6 +307,7 @@ in_map f (there m) = there (in_map f m)
 pub setting_in : (ms : List ℕ) {ts : List ℕ} {m t : ℕ} → In m ms → In t ts → In (record { transpose = m; window = t }) (settings_by ms ts)
 setting_in (m ∷ ms) {ts} here j = in_left (settings_by ms ts) (in_map (λ t. record { transpose = m; window = t }) j)
 setting_in (n ∷ ms) {ts} (there i) j = in_right (map (λ t. record { transpose = n; window = t }) ts) (setting_in ms i j)
+setting_in [] {ts = ts} {m = m} {t = t} x'' j = elim x'' [ ]
 
 single_even : (n m : ℕ) → is_odd n ≡ false → In m (n ∷ []) → is_odd m ≡ false
 single_even n _ t here = t

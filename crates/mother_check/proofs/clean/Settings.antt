@@ -42,6 +42,7 @@ module _ (bank8 banka : List ℕ) (places : Places) (kind : Kind) (i : ℕ) (ss 
       names_good (sized_after bank8 banka kind address sized) names
       (none_both (block_faults bank8 banka places kind address (site_of i p) ss sized) _ e).1 m
   names_good sized (bad p ∷ names) e (there m) = cons_none e
+  names_good sized [] {place = place} e x'' = elim x'' [ ]
 
   names_clean : (sized : Bool) (names : List Named) {place address : ℕ} → named_faults bank8 banka places kind i ss sized names ≡ [] →
       In (block place address) names → CleanBlock bank8 banka places kind ss address
@@ -55,6 +56,7 @@ module _ (bank8 banka : List ℕ) (places : Places) (kind : Kind) (i : ℕ) (ss 
       names_clean (sized_after bank8 banka kind a sized) names
       (none_both (block_faults bank8 banka places kind a (site_of i p) ss sized) _ e).1 m
   names_clean sized (bad p ∷ names) e (there m) = absurd (cons_none e)
+  names_clean sized [] e m = elim m [ ]
 
   names_first : (names rest : List Named) {place address : ℕ} → named_faults bank8 banka places kind i ss false names ≡ [] →
       names ≡ block place address ∷ rest → CleanFirst bank8 banka places kind ss address
@@ -76,6 +78,7 @@ module _ (bank8 banka : List ℕ) (places : Places) (ss : List Setting) where
   unfolding voices_faults
   voices_clean i (_ ∷ vs) {v} e here used = channel_clean i v used (none_both (channel_faults bank8 banka places i ss v) _ e).0
   voices_clean i (w ∷ vs) e (there m) used = voices_clean (i + 1) vs (none_both (channel_faults bank8 banka places i ss w) _ e).1 m used
+  voices_clean i [] {v = v} e x3 used = elim x3 [ ]
 
 module _ (bank8 banka : List ℕ) (places : Places) (track : Track) (clean : track_faults bank8 banka places track ≡ []) where
   abbrev ss : List Setting
@@ -107,6 +110,7 @@ module _ (bank8 banka : List ℕ) (set : Command → List ℕ) where
   in_blocks_lem kind (block p a ∷ names) (there i) m =
       in_right (in_commands set (straight kind (block_of bank8 banka a)).commands) (in_blocks_lem kind names i m)
   in_blocks_lem kind (bad p ∷ names) (there i) m = in_blocks_lem kind names i m
+  in_blocks_lem kind [] {place = place} {address = address} x4 m = elim x4 [ ]
 
   abbrev in_voice : Voice → List ℕ
   in_voice v = pick v.used (in_blocks set bank8 banka v.kind (named (banks bank8 banka) v.list)) []
@@ -114,6 +118,7 @@ module _ (bank8 banka : List ℕ) (set : Command → List ℕ) where
   in_voices_lem : (vs : List Voice) {v : Voice} {x : ℕ} → In v vs → In x (in_voice v) → In x (in_voices set bank8 banka vs)
   in_voices_lem (_ ∷ vs) here m = in_left (in_voices set bank8 banka vs) m
   in_voices_lem (w ∷ vs) (there i) m = in_right (in_voice w) (in_voices_lem vs i m)
+  in_voices_lem [] {v = v} x4 m = elim x4 [ ]
 
 module _ (bank8 banka : List ℕ) (track : Track) where
   pub header_in : In track.transpose (transposes_of bank8 banka track) × In track.window (windows_of bank8 banka track)

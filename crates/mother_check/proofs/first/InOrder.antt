@@ -61,6 +61,8 @@ module _ (source : Source) (site : Site) (ss : List Setting) where
 
   end_from_lem : (at : ℕ) (noted : Bool) (f : Fault) → In f (end_fault site noted at) → From site at f
   end_from_lem at false f here = record { channel = refl; place = refl; offset = omega arith }
+  end_from_lem at false f (there x4) = elim x4 [ ]
+  end_from_lem at true f x'' = elim x'' [ ]
 
   read_from_lem : (p : Progress) {at : ℕ} {cs : List Placed} {finish : Finish} → Reads source.kind source.bytes at cs finish →
       (f : Fault) → In f (read_faults source site ss p at cs finish) → From site at f
@@ -154,6 +156,7 @@ module _ (bank8 banka : List ℕ) (places : Places) (e : Extremes) (ss : List Se
   voices_from i (v ∷ vs) f m =
       each_of (λ f. i ≤ f.channel) (channel_faults bank8 banka places i ss v) (voices_faults bank8 banka places (i + 1) ss vs)
       (λ f m. omega (arith, voice_from i v f m)) (λ f m. omega (arith, voices_from (i + 1) vs f m)) f m
+  voices_from i [] f m = elim m [ ]
 
   module _ (given : (kind : Kind) (start : ℕ) (site : Site) (sized : Bool) (at : ℕ) →
       first_tried (block_source bank8 banka places kind start) site e sized at ≡ first_of (command_faults (block_source bank8 banka places kind start) site ss sized at)) where

@@ -22,7 +22,7 @@ use Rattle.mother_format.specs.declared.transpose.Sounding.{Sounding}
 use Rattle.mother_format.specs.declared.channel.Setting.{Setting}
 use Rattle.mother_format.specs.declared.channel.Played.{Played}
 use Rattle.mother_check.specs.Faults.{fault_by, length_by, command_faults}
-use Rattle.mother_check.proofs.Member.{In, here}
+use Rattle.mother_check.proofs.Member.{In, here, there}
 use Rattle.mother_check.proofs.first.Order.{each_of}
 use Rattle.mother_check.specs.declared.faults.Site.{Site}
 use Rattle.mother_check.specs.declared.faults.Fault.{Fault}
@@ -152,12 +152,22 @@ module _ (source : Source) (site : Site) (at : ℕ) where
     from = record { channel = refl; place = refl; offset = under_from at (command_at source.kind source.bytes at) offset u };
     before = λ e. let (low, high, more) = subst (λ d. Under at d offset) e u in (high, more);
   }
+  by_stands f Played.End u x'' = elim x'' [ ]
+  by_stands f (Played.Transpose _ _) u x5 = elim x5 [ ]
+  by_stands f (Played.Window _ _) u x6 = elim x6 [ ]
+  by_stands f (Played.EndLoop _) u x6 = elim x6 [ ]
+  by_stands f (Played.BeginLoop _ _) u x8 = elim x8 [ ]
+  by_stands f (Played.Length _ _ _) u x10 = elim x10 [ ]
+  by_stands f (Played.Timbre _ _ _) u x11 = elim x11 [ ]
+  by_stands f (Played.Note _ _) u x11 = elim x11 [ ]
+  by_stands f (Played.Refused number offset address) u (there x13) = elim x13 [ ]
 
   pub command_stands : (ss : List Setting) (sized : Bool) (f : Fault) → In f (command_faults source site ss sized at) → Stands f
   unfolding command_faults
   command_stands (s ∷ ss) sized f m =
       each_of Stands (fault_by site (played_at source s (length_by sized) at)) (command_faults source site ss sized at)
       (λ f. by_stands f (played_at source s (length_by sized) at) (played_under source s (length_by sized) at)) (command_stands ss sized) f m
+  command_stands [] sized f m = elim m [ ]
 
   pub end_clean : (ss : List Setting) (sized : Bool) {c : Command} {next : ℕ} → Finds c next → is_end c ≡ true → command_faults source site ss sized at ≡ []
   end_clean ss sized {c} e i = none (command_faults source site ss sized at) (command_stands ss sized)

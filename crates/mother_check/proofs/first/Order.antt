@@ -84,6 +84,7 @@ first_is f (x ∷ fs) (there m) k = ap (sooner x) (first_is f fs m (λ g n. k g 
     by : SameOrLater f x → sooner x (First.Fault f) ≡ First.Fault f
     by (same e) = by-test (λ y. First.Fault y ≡ First.Fault f) (is_lower (key_of f) (key_of x)) (λ _. refl) (λ _. ap First.Fault e)
     by (later h) = rw h
+first_is f [] x'' k = elim x'' [ ]
 
 -- where none of the second list is sooner
 pub first_append : (fs gs : List Fault) → ((f g : Fault) → In f fs → In g gs → is_lower (key_of g) (key_of f) ≡ false) →

@@ -31,12 +31,14 @@ module _ (m : ℕ) where
   with_window_lem : (ws : List ℕ) {s : Setting} → In s (map (λ t. record { transpose = m; window = t }) ws) → (s.transpose ≡ m) × In s.window ws
   with_window_lem (w ∷ ws) here = (refl, here)
   with_window_lem (w ∷ ws) (there i) = let (e, j) = with_window_lem ws i in (e, there j)
+  with_window_lem [] {s = s} x' = elim x' [ ]
 
 setting_of_lem : (ms ws : List ℕ) {s : Setting} → In s (settings_by ms ws) → In s.transpose ms × In s.window ws
 setting_of_lem (m ∷ ms) ws {s} i =
     in_one (map (λ t. record { transpose = m; window = t }) ws)
     (λ j. let (e, k) = with_window_lem m ws j in (subst (λ n. In n (m ∷ ms)) (sym e) here, k))
     (λ j. let (k, n) = setting_of_lem ms ws j in (there k, n)) i
+setting_of_lem [] ws {s = s} i = elim i [ ]
 
 none_first : (fs : List Fault) → ((f : Fault) → In f fs → ⊥) → first_of fs ≡ First.Nothing
 unfolding first_of
@@ -54,10 +56,20 @@ module _ (source : Source) (site : Site) (sized : Bool) (at : ℕ) where
   unfolding command_faults
   faults_of (s ∷ ss) {f = f} here e = in_left (command_faults source site ss sized at) (first_found_in _ f e)
   faults_of (s ∷ ss) (there i) e = in_right (fault_by site (played s)) (faults_of ss i e)
+  faults_of [] {s = s} {f = f} x'' e = elim x'' [ ]
 
   only : (p : Played) {f : Fault} → In f (fault_by site p) → first_of (fault_by site p) ≡ First.Fault f
   unfolding first_of
   only (Played.Refused number offset address) here = refl
+  only Played.End {f = f} x' = elim x' [ ]
+  only (Played.Transpose _ _) {f = f} x4 = elim x4 [ ]
+  only (Played.Window _ _) {f = f} x5 = elim x5 [ ]
+  only (Played.EndLoop _) {f = f} x5 = elim x5 [ ]
+  only (Played.BeginLoop _ _) {f = f} x7 = elim x7 [ ]
+  only (Played.Length _ _ _) {f = f} x9 = elim x9 [ ]
+  only (Played.Timbre _ _ _) {f = f} x10 = elim x10 [ ]
+  only (Played.Note _ _) {f = f} x10 = elim x10 [ ]
+  only (Played.Refused number offset address) {f = f} (there x12) = elim x12 [ ]
 
   record From (ss : List Setting) (f : Fault) : Type 0 where
     setting : Setting
@@ -69,6 +81,7 @@ module _ (source : Source) (site : Site) (sized : Bool) (at : ℕ) where
   from_faults (s ∷ ss) i =
       in_one (fault_by site (played s)) (λ j. record { setting = s; is_in = here; finds = only (played s) j })
       (λ j. let r = from_faults ss j in record { setting = r.setting; is_in = there r.is_in; finds = r.finds }) i
+  from_faults [] {f = f} i = elim i [ ]
 
   -- what a setting finds is the first, if none finds a sooner one
   first_by : (ss : List Setting) (s : Setting) → In s ss → ((x : Setting) → In x ss → NoSooner (found x) (found s)) →

@@ -18,9 +18,10 @@ use Rattle.mother_format.specs.declared.channel.Setting.{Setting}
 use Rattle.mother_format.specs.declared.header.Voice.{Voice}
 use Rattle.mother_format.specs.declared.header.Track.{Track}
 use Rattle.mother_player.specs.Record.{fresh_channel, fresh_player, stopped_player, record_fits}
-use Rattle.mother_player.specs.Frame.{turn_of, Settled, settle_on, settle_by, settle_from, framed_by, setting_of, frame_of_track}
+use Rattle.mother_player.specs.Frame.{one_off, turn_of, Settled, settle_on, settle_by, settle_from, framed_by, setting_of, frame_of_track}
 use Rattle.mother_player.specs.declared.record.Channel.{Channel}
 use Rattle.mother_player.specs.declared.record.Player.{Player}
+use Rattle.mother_player.specs.Event.{off_event, event_of}
 use Rattle.mother_player.specs.declared.event.Event.{Event}
 use Rattle.mother_player.specs.declared.reading.Turned.{Turned}
 use Rattle.mother_player.specs.declared.reading.Turn.{Turn}
@@ -65,8 +66,9 @@ module _ (bank8 banka : List ℕ) (places : Places) (track : Track) where
   settle_by_lem : (i : ℕ) (v : Voice) (vs : List Voice) (c : Channel) (cs : List Channel) (t : Turn) (turned : Turned) (rest : Settled) →
       TurnHolds bank8 banka places track v t turned → (Sets bank8 banka track t.setting → SettledHolds vs cs rest rest.answer) →
       SettledHolds (v ∷ vs) (c ∷ cs) (settle_by (banks bank8 banka) places i v t turned rest) (settle_by (banks bank8 banka) places i v t turned rest).answer
-  settle_by_lem i v vs c cs t Turned.Off rest (s, h) more = settle_on_lem v vs c cs _ _ _ rest h rest.answer (more s)
-  settle_by_lem i v vs c cs t Turned.Plays rest (s, h) more = settle_on_lem v vs c cs _ _ _ rest h rest.answer (more s)
+  settle_by_lem i v vs c cs t Turned.Off rest (s, h) more = settle_on_lem v vs c cs off_event t.channel t.count rest h rest.answer (more s)
+  settle_by_lem i v vs c cs t Turned.Plays rest (s, h) more =
+      settle_on_lem v vs c cs (event_of (banks bank8 banka) places v.kind t.channel t.began) (one_off t.channel) t.count rest h rest.answer (more s)
   settle_by_lem i v vs c cs t Turned.End rest h more = tt
   settle_by_lem i v vs c cs t (Turned.Refused number at address) rest h more = h
 

@@ -37,14 +37,10 @@ module _ (e : Extremes) (m : ℕ) where
   lowered = record { low = pick (ltb (rank_of m) (rank_of e.low)) m e.low; high = e.high; windows = e.windows }
 
   -- by which arm the code came
-  pub lower_came : {L R : Type 0} (x : Extremes) (a b : ℕ) → a ≡ rank_of m → b ≡ rank_of e.low → (L → a < b) → (R → b ≤ a) →
-      (L × (x ≡ record { low = m; high = e.high; windows = e.windows })) ⊎ (R × (x ≡ e)) → x ≡ lowered
-  lower_came x a b p q taken left (inl (l, f)) =
-      let h = taken l in
-      f ∙ rw (lt-ltb (rank_of m) (rank_of e.low) (omega arith))
-  lower_came x a b p q taken left (inr (r, f)) =
-      let h = left r in
-      f ∙ rw (le-ltb (rank_of m) (rank_of e.low) (omega arith))
+  pub lower_came : (x : Extremes) (a b : ℕ) → a ≡ rank_of m → b ≡ rank_of e.low →
+      ((a < b) × (x ≡ record { low = m; high = e.high; windows = e.windows })) ⊎ ((b ≤ a) × (x ≡ e)) → x ≡ lowered
+  lower_came x a b p q (inl (h, f)) = f ∙ rw (lt-ltb (rank_of m) (rank_of e.low) (omega arith))
+  lower_came x a b p q (inr (h, f)) = f ∙ rw (le-ltb (rank_of m) (rank_of e.low) (omega arith))
 
   module _ (odd : is_odd m ≡ false) (x : Extremes) (l : x ≡ lowered) (a b : ℕ) (p : a ≡ rank_of x.high) (q : b ≡ rank_of m) where
     high_same : a ≡ rank_of e.high

@@ -31,7 +31,7 @@ use Rattle.mother_format.specs.declared.header.Track.{Track}
 use Rattle.mother_check.specs.Walk.{Named, block, bad, named}
 use Rattle.mother_check.specs.Settings.{transpose_of, window_of, in_commands, in_blocks, in_voices, transposes_of, windows_of}
 use Rattle.mother_check.specs.Extremes.{rank_of, with_transpose, is_sooner, worse_window, worse_from, with_window, with_command, with_commands, with_block, with_named, with_channel, with_voices, extremes_of}
-use Rattle.mother_check.proofs.Member.{In, here, in_left, in_right, Either, left, right, in_either}
+use Rattle.mother_check.proofs.Member.{In, here, there, in_left, in_right, Either, left, right, in_either}
 use Rattle.mother_check.proofs.settings.Spans.{Spans}
 use Rattle.mother_check.specs.declared.settings.Extremes.{Extremes}
 
@@ -75,6 +75,7 @@ later_than_sooner a b t l s =
 
 one_is : {A : Type 0} {x y : A} → In x (y ∷ []) → x ≡ y
 one_is here = refl
+one_is {A = A} {y = y} (there x4) = elim x4 [ ]
 
 module _ (bank : List ℕ) (table : ℕ) where
   -- with a window for each index, as the array has it
@@ -208,7 +209,7 @@ module _ (bank : List ℕ) (table : ℕ) where
       Spanning (ms ++ in_commands transpose_of cs) (ws ++ in_commands window_of cs) (with_commands bank table e cs)
   commands_more ms ws e s [] = nothing_more s
   commands_more ms ws e s (c ∷ cs) =
-      both_more ms _ _ ws _ _ (commands_more _ _ _ (command_more ms ws e s c.command) cs)
+      both_more ms _ _ ws _ _ (commands_more (ms ++ transpose_of c.command) (ws ++ window_of c.command) (with_command bank table e c.command) (command_more ms ws e s c.command) cs)
 
 module _ (bank8 banka : List ℕ) (table : ℕ) where
   abbrev Spanned : List ℕ → List ℕ → Extremes → Type 0
@@ -220,7 +221,9 @@ module _ (bank8 banka : List ℕ) (table : ℕ) where
   blocks_more kind ms ws e s [] = nothing_more _ _ s
   blocks_more kind ms ws e s (block place address ∷ names) =
       both_more _ _ ms _ _ ws _ _
-      (blocks_more kind _ _ _ (commands_more _ _ ms ws e s (straight kind (block_of bank8 banka address)).commands) names)
+      (blocks_more kind (ms ++ in_commands transpose_of (straight kind (block_of bank8 banka address)).commands)
+      (ws ++ in_commands window_of (straight kind (block_of bank8 banka address)).commands) _
+      (commands_more _ _ ms ws e s (straight kind (block_of bank8 banka address)).commands) names)
   blocks_more kind ms ws e s (bad place ∷ names) = blocks_more kind ms ws e s names
 
   voice_more : (ms ws : List ℕ) (e : Extremes) → Spanned ms ws e → (v : Voice) (b : Bool) →
@@ -236,7 +239,8 @@ module _ (bank8 banka : List ℕ) (table : ℕ) where
   unfolding with_voices
   voices_more ms ws e s [] = nothing_more _ _ s
   voices_more ms ws e s (v ∷ vs) =
-      both_more _ _ ms _ _ ws _ _ (voices_more _ _ _ (voice_more ms ws e s v v.used) vs)
+      both_more _ _ ms _ _ ws _ _ (voices_more (ms ++ pick v.used (in_blocks transpose_of bank8 banka v.kind (named (banks bank8 banka) v.list)) [])
+      (ws ++ pick v.used (in_blocks window_of bank8 banka v.kind (named (banks bank8 banka) v.list)) []) _ (voice_more ms ws e s v v.used) vs)
 
 -- the header's, before any command
 header_spans : (bank : List ℕ) (table m t : ℕ) → Spanning bank table (m ∷ []) (t ∷ []) (record { low = m; high = m; windows = replicate 16 t })

@@ -77,6 +77,7 @@ module _ (start : ℕ) (w : within start 1 ≡ true) (site : Site) where
 
   one_within : (number at address : ℕ) → Faulting number at address → (f : Fault) → In f (fault_at site number at address ∷ []) → Sited f
   one_within number at address x _ here = fault_from refl x
+  one_within number at address x f (there x4) = elim x4 [ ]
 
   refused_within : (number at : ℕ) → Refusing number → at ≤ block_limit → (f : Fault) → In f (fault_by site (refused_at start number at)) → Sited f
   refused_within number at (Refusing.of_envelope low high) h =
@@ -115,6 +116,7 @@ module _ (start : ℕ) (w : within start 1 ≡ true) (site : Site) where
     end_within : (noted : Bool) (at : ℕ) → at ≤ length bytes → (f : Fault) → In f (end_fault site noted at) → Sited f
     end_within true at h f i = none_in i
     end_within false at h _ here = let small = block_within bank8 banka start in fault_from refl (of_end (omega arith))
+    end_within false at h f (there x5) = elim x5 [ ]
 
     module _ (ss : List Setting) where
       abbrev ReadWithin : Progress → ℕ → Straight → Type 0

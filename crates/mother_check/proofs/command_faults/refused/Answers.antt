@@ -1,0 +1,13 @@
+use mathlib.Core.Path.{◌∙◌}
+use borrow.Author.Rules.{rules}
+use borrow.Author.Tests.{le-leb, lt-leb}
+use Rattle.mother_check.proofs.command_faults.refused.Goals as goal
+
+pub returns-then-number-lt-INVALID_COMMAND : goal.returns-then-number-lt-INVALID_COMMAND
+returns-then-number-lt-INVALID_COMMAND c = c.fault_of.ensures ∙ rw (lt-leb _ _ c.if-number-lt-INVALID_COMMAND.true)
+
+pub returns-then-number-gt-PAST_DATA : goal.returns-then-number-gt-PAST_DATA
+returns-then-number-gt-PAST_DATA c = c.fault_of-then-number-gt-PAST_DATA.ensures ∙ rw (le-leb _ _ c.if-number-lt-INVALID_COMMAND.false, lt-leb _ _ c.if-number-gt-PAST_DATA.true)
+
+pub returns : goal.returns
+returns c = c.fault_of-2.ensures ∙ rw (le-leb _ _ c.if-number-lt-INVALID_COMMAND.false, le-leb _ _ c.if-number-gt-PAST_DATA.false)
