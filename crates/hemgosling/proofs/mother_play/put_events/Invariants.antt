@@ -1,0 +1,15 @@
+use Prim.Native.Nat.{◌-◌}
+use mathlib.Core.Path.{refl}
+use native.Mathlib.Omega.{arith}
+use borrow.Author.Rules.{rules}
+use Rattle.mother_player.specs.Event.{told_event}
+use Rattle.mother_player.specs.Frame.{told_events}
+use Rattle.hemgosling.proofs.tell.Laws.{Putting, putting_more, all_put}
+use Rattle.hemgosling.proofs.mother_play.Laws.{place, six}
+use Rattle.hemgosling.proofs.mother_play.put_events.Given as goal
+
+abbrev pub invariant-loop-i : goal.invariant-loop-i
+invariant-loop-i l = Putting told_event told_events place l.initial.out l.events l.out l.i
+
+abbrev pub decreases-loop-i : goal.decreases-loop-i
+decreases-loop-i l = 4 - l.i

@@ -1,0 +1,12 @@
+use mathlib.Core.Path.{◌∙◌}
+use native.Mathlib.Omega.{arith}
+use borrow.Author.Rules.{rules}
+use Rattle.metroid_check.proofs.Countdown.{countdown}
+use Rattle.hemgosling.proofs.play.started_of.Goals as goal
+
+pub returns : goal.returns
+returns c =
+    record {
+      finds = c.start.ensures.same ∙ rw c.places_of-found.ensures;
+      countdown = countdown _ _ _ λ i. omega (arith, c.shared_slice_known-1.given i);
+    }

@@ -1,0 +1,6 @@
+use borrow.Author.Rules.{rules}
+use Rattle.metroid_text.proofs.line.Laws.{puts_then}
+use Rattle.metroid_text.proofs.mother.put.Goals as goal
+
+pub returns : goal.returns
+returns c = puts_then c.put_words-told.ensures c.append.ensures
