@@ -2,7 +2,7 @@
 // start answers, and one for each frame's answer (metroid_text::answer).
 #![tactic(auto)]
 
-ghost use Rattle.std.specs.Prelude.{◌≤◌, ◌≡◌, length, take};
+ghost use Rattle.std.specs.Prelude.{◌≤◌, ◌≡◌, length, take, IfOk};
 ghost use Rattle.io.specs.Counts.{IsPrefixLen};
 ghost use Rattle.metroid_text.specs.Line.{line_most};
 ghost use Rattle.metroid_text.specs.Answer.{answer_line};
@@ -15,6 +15,8 @@ use metroid_player::frame::Framed;
 use metroid_player::record::Player;
 use metroid_text::answer;
 use metroid_text::line::LINE_MOST;
+use std::fs::File;
+use std::io::Read;
 
 const TRACKS: u32 = 6;
 
@@ -74,19 +76,34 @@ fn show_tracks(bytes: &[u8]) {
     }
 }
 
-fn show_bank(name: &[u8]) {
-    io::write_all(1, name);
-    io::write_all(1, b"\n");
-    let mut bytes = [0u8; 16384];
-    let file = os::open_read(name);
-    let n = io::read_full(file, &mut bytes);
-    libc::close(file);
-    show_tracks(&bytes[..n]);
+// Fills the buffer as far as the file has bytes; how many it put there.
+fn read_full(file: &mut File, out: &mut [u8]) -> std::io::Result<usize>
+    ensures { IfOk result (λ n. n ≤ length out.new) }
+{
+    let mut done: usize = 0;
+    while done < out.len() {
+        let n = file.read(&mut out[done..])?;
+        if n == 0 {
+            break;
+        }
+        done += n;
+    }
+    Ok(done)
 }
 
-fn main() {
-    show_bank(b"plays");
-    show_bank(b"faults");
-    show_bank(b"headers");
-    show_bank(b"silent");
+fn show_bank(rt: &HostRuntime, name: &str) -> std::io::Result<()> {
+    io::write_all(1, name.as_bytes());
+    io::write_all(1, b"\n");
+    let mut bytes = [0u8; 16384];
+    let mut file = File::open(rt, name)?;
+    let n = read_full(&mut file, &mut bytes)?;
+    show_tracks(&bytes[..n]);
+    Ok(())
+}
+
+fn main(rt: HostRuntime) -> std::io::Result<()> {
+    show_bank(&rt, "plays")?;
+    show_bank(&rt, "faults")?;
+    show_bank(&rt, "headers")?;
+    show_bank(&rt, "silent")
 }
