@@ -122,7 +122,6 @@ module _ (source : Source) where
   moved_past {cursor} setting frames (sets_timbre x c next e) (by_timbre _ _ _) =
       let (size, near, small) = stands source.kind source.bytes cursor.next e in
       record { start = refl; counter = refl; on = omega arith }
-
   moved_past {cursor} setting frames (ends_block _ _) o = elim o [ ]
   moved_past {cursor} setting frames (ends_loop next _) o = elim o [ ]
   moved_past {cursor} setting frames (begins_loop n counter next _ _) o = elim o [ ]

@@ -20,15 +20,14 @@ step_from-step-requires c = omega (arith, simp length-take at (ap length c.part-
 
 pub loop-count-preserved : goal.loop-count-preserved
 unfolding read_until
-loop-count-preserved c =
-    (
-      omega arith,
-      read_turn _ _ _ fuel _ _ _
-          c.step_from-step.ensures
-          c.in-Again.is
-          c.loop-count-test.true
-          c.loop-count.invariant.1,
-    )
+loop-count-preserved c = (
+  omega arith,
+  read_turn _ _ _ fuel _ _ _
+      c.step_from-step.ensures
+      c.in-Again.is
+      c.loop-count-test.true
+      c.loop-count.invariant.1,
+)
 
 pub returns-in-Note : goal.returns-in-Note
 unfolding read_until

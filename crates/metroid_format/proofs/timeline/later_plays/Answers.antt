@@ -14,7 +14,7 @@ overflow_add-result c = omega (arith, one_play data_limit c.args.lead c.args.len
 pub overflow_mul-result-2 : goal.overflow_mul-result-2
 overflow_mul-result-2 c =
     let h : c.args.counter * (c.args.lead * c.args.length + c.args.rest) ≤ 255 * (510 * data_limit) =
-      later_plays data_limit c.args.lead c.args.length c.args.rest c.requires.0 (omega arith) c.requires.1 _ (omega arith) in
+    later_plays data_limit c.args.lead c.args.length c.args.rest c.requires.0 (omega arith) c.requires.1 _ (omega arith) in
     omega arith
 
 pub returns : goal.returns

@@ -23,22 +23,21 @@ pass_on-passed-requires c =
 
 pub loop-n-preserved : goal.loop-n-preserved
 unfolding timeline_of
-loop-n-preserved c =
-    (
-      omega arith,
-      pass_bounded _ _
-          (λ i. omega (arith, c.shared_slice_known-2-1.given i))
-          c.loop-n.invariant.1
-          _
-          _
-          c.pass_on-passed.ensures
-          c.in-On.is,
-      pass_turn _ _ _ _ _ _ _
-          c.pass_on-passed.ensures
-          c.in-On.is
-          (omega (arith, c.loop-n-test.true))
-          c.loop-n.invariant.2,
-    )
+loop-n-preserved c = (
+  omega arith,
+  pass_bounded _ _
+      (λ i. omega (arith, c.shared_slice_known-2-1.given i))
+      c.loop-n.invariant.1
+      _
+      _
+      c.pass_on-passed.ensures
+      c.in-On.is,
+  pass_turn _ _ _ _ _ _ _
+      c.pass_on-passed.ensures
+      c.in-On.is
+      (omega (arith, c.loop-n-test.true))
+      c.loop-n.invariant.2,
+)
 
 pub returns-in-Finished : goal.returns-in-Finished
 unfolding timeline_of

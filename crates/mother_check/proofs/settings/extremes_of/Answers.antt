@@ -15,10 +15,10 @@ loop-i-init c = record { within = omega arith; four = c.well_formed.1.1.1.0.1.1.
 
 pub loop-i-preserved : goal.loop-i-preserved
 unfolding extremes_of
-loop-i-preserved c = 
+loop-i-preserved c =
     elim c.if-voice.branch [
-      then-voice w ↦ visiting_used _ _ _ _ _ _ _ c.loop-i.invariant c.loop-i-test.true _ _ w.if-voice.true (w.e-is ∙ w.with_channel-e.ensures)
-    | else-voice w ↦ visiting_unused _ _ _ _ _ _ _ c.loop-i.invariant c.loop-i-test.true _ _ w.if-voice.false w.e-is
+      | then-voice w ↦ visiting_used _ _ _ _ _ _ _ c.loop-i.invariant c.loop-i-test.true _ _ w.if-voice.true (w.e-is ∙ w.with_channel-e.ensures)
+      | else-voice w ↦ visiting_unused _ _ _ _ _ _ _ c.loop-i.invariant c.loop-i-test.true _ _ w.if-voice.false w.e-is
     ]
 
 pub returns : goal.returns
