@@ -9,7 +9,7 @@
    What comes first is for Metroid's format. The calls for Mother's, the later engine's, stand at the end, under
    hem_mother_, with two banks, a verdict, a record and an answer of their own.
 
-   Link with target/staticlib/libhemgosling.a (x86-64 Linux). A complete program stands in README.md. */
+   Link with crates/hemgosling/out/libhemgosling.a (x86-64 Linux). A complete program stands in README.md. */
 #ifndef HEMGOSLING_H
 #define HEMGOSLING_H
 

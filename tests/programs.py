@@ -93,7 +93,7 @@ class Program:
     must_come: typing.Sequence[str]  # of what is told, and of the addresses that end a line
 
     def same(self, what, data):
-        proved = printed(built("target/bin/" + self.name), data)
+        proved = printed(built(f"crates/{self.name}/out/{self.name}"), data)
         independent = printed(built(self.independent), data)
         if proved != independent:
             path = os.path.join(tempfile.gettempdir(), self.name + "-differs.bin")

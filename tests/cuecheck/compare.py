@@ -1,7 +1,7 @@
 #!/usr/bin/env python3
 """cuecheck against the independent program, which runs every frame: both must print the same.
 
-    make -C tests/reference && rt check cuecheck && tests/cuecheck/compare.py [BANKS] [SEED]
+    make -C tests/reference && ./cuecheck /dev/null && tests/cuecheck/compare.py [BANKS] [SEED]
 
 Fails too if one of the lines that a bank or another input can give did not come.
 """

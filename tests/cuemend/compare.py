@@ -1,7 +1,7 @@
 #!/usr/bin/env python3
 """cuemend against cases worked out by hand, and against independent rules on random banks.
 
-    make -C tests/reference && rt staticlib hemgosling && tests/cuemend/compare.py [BANKS] [SEED]
+    make -C tests/reference && (cd crates/hemgosling && rt lib) && tests/cuemend/compare.py [BANKS] [SEED]
 
 LIB=FILE takes another archive, by its full path. Verdicts are the independent cuecheck's; the proved one, where it is
 built, must print the same. Fails too if one of the lines that cuemend can print did not come.
@@ -24,8 +24,8 @@ from expected import TRACKS, Outcome, expected
 
 PROGRAM = os.path.join(ROOT, "tests/cuemend/build/cuemend")
 SCRIPT = os.path.join(ROOT, "cuemend")
-BUILT_BY_SCRIPT = os.path.join(ROOT, "target/bin/cuemend")
-PROVED_CUECHECK = "target/bin/cuecheck"
+BUILT_BY_SCRIPT = os.path.join(ROOT, "target/cuemend")
+PROVED_CUECHECK = "crates/cuecheck/out/cuecheck"
 # OUTPUT and what it holds before: it is new, it is there, it is FILE
 NEW, THERE, SAME = ("mended", None), ("mended", b"something else"), ("bank", None)
 # 2 and 4 can't come with the published places

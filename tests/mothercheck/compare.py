@@ -1,7 +1,7 @@
 #!/usr/bin/env python3
 """mothercheck against the independent program, which lists every fault: both must print the same.
 
-    make -C tests/mother && rt check mothercheck && tests/mothercheck/compare.py [BANKS] [SEED]
+    make -C tests/mother && ./mothercheck /dev/null && tests/mothercheck/compare.py [BANKS] [SEED]
 
 Fails too if one of the lines that the banks or another input can give did not come.
 """

@@ -1,5 +1,5 @@
 -- Document 02, No. 3: the words of a channel's playlist in playing order; what a goto leads to is looked at once.
-use Rattle.std.specs.Prelude.{ℕ, zero, suc, ◌+◌, ◌-◌, ◌*◌, Bool, true, false, List, [], ◌∷◌, get_or, set, replicate}
+use Rattle.std.specs.Prelude.{ℕ, zero, suc, ◌+◌, ◌*◌, Bool, true, false, List, [], ◌∷◌, get_or, set, replicate}
 use Rattle.engine_base.specs.Pick.{pick}
 use Rattle.engine_base.specs.Address.{offset_of}
 use Rattle.mother_format.specs.Playlist.{row_limit, entry_at}

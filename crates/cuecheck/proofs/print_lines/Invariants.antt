@@ -1,6 +1,4 @@
 use Prim.Native.Nat.{◌≤◌, ◌-◌}
-use native.Mathlib.Omega.{arith}
-use borrow.Author.Rules.{rules}
 use Rattle.cuecheck.proofs.print_lines.Given as goal
 
 abbrev pub invariant-loop-track : goal.invariant-loop-track

@@ -33,7 +33,7 @@ use Rattle.mother_player.specs.Record.{sounds_in, timbre_fits}
 use Rattle.mother_check.specs.Settings.{transpose_of, window_of, in_commands, settings_by}
 use Rattle.mother_check.specs.Reading.{passed}
 use Rattle.mother_check.specs.Faults.{fault_by, length_by, command_faults, finish_faults, read_faults, entering, block_faults}
-use Rattle.mother_check.proofs.Member.{In, here, there, in_left, in_right, left, in_one, none_in, cons_none, none_both}
+use Rattle.mother_check.proofs.Member.{In, here, there, in_left, in_right, in_one, none_in, cons_none, none_both}
 use Rattle.mother_check.proofs.clean.Visits.{Visits, at_first, at_next, Unrefused}
 use Rattle.mother_check.specs.declared.reading.Progress.{Progress}
 use Rattle.mother_check.specs.declared.faults.Site.{Site}

@@ -6,7 +6,6 @@ use mathlib.Core.Path.{◌≡◌, refl, sym, subst, ◌∙◌}
 use native.Mathlib.Omega.{arith}
 use borrow.Author.Tests.{ne_eqb, eqb-false}
 use lib.Dec.{eqb, ltb}
-use lib.ListN.{length}
 use Rattle.engine_base.specs.Address.{offset_of, within}
 use Rattle.engine_base.specs.Bytes.{word_at}
 use Rattle.engine_base.proofs.Picks.{by-test, false_true}

@@ -1,10 +1,10 @@
 -- What a playlist's word leaves: the address after it is a word of 16 bits, and a block word has too few before it in its row.
 use Prim.Native.Nat.{ℕ, ◌+◌, ◌/◌, ◌<◌}
-use mathlib.Core.Bool.{Bool, true, false, not}
+use mathlib.Core.Bool.{Bool, true}
 use mathlib.Core.List.{List}
 use mathlib.Core.Path.{◌≡◌, sym, ◌∙◌}
 use native.Mathlib.Omega.{arith}
-use borrow.Author.Tests.{not-false, ltb-true}
+use borrow.Author.Tests.{ltb-true}
 use mir.Syntax.{w16}
 use mir.Val.{Fits}
 use lib.Dec.{eqb, ltb}

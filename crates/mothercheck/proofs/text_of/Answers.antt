@@ -1,4 +1,3 @@
-use borrow.Author.Rules.{rules}
 use Rattle.metroid_text.proofs.line.Laws.{spelled_counts, spelled_whole}
 use Rattle.mothercheck.proofs.text_of.Goals as goal
 

@@ -1,6 +1,4 @@
 use Prim.Native.Nat.{◌≤◌, ◌-◌}
-use native.Mathlib.Omega.{arith}
-use borrow.Author.Rules.{rules}
 use Rattle.trace.proofs.show_frames.Given as goal
 
 abbrev pub invariant-loop-frame : goal.invariant-loop-frame

@@ -1,4 +1,3 @@
-use borrow.Author.Rules.{rules}
 use Rattle.hemgosling.proofs.judge.Laws.{verdict_placed, judges}
 use Rattle.hemgosling.proofs.judge.hem_check.Goals as goal
 

@@ -1,4 +1,3 @@
-use borrow.Author.Rules.{rules}
 use mathlib.Core.Path.{refl}
 use Rattle.hemgosling.proofs.judge.Laws.{pass_channel, fault_channel}
 use Rattle.hemgosling.proofs.judge.tell.Goals as goal

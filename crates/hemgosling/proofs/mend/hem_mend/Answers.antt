@@ -1,4 +1,3 @@
-use borrow.Author.Rules.{rules}
 use Rattle.hemgosling.proofs.mend.Laws.{mending_within, mends_into}
 use Rattle.hemgosling.proofs.mend.hem_mend.Goals as goal
 

@@ -1,4 +1,3 @@
-use borrow.Author.Rules.{rules}
 use mathlib.Core.Path.{refl}
 use Rattle.hemgosling.proofs.mend.Laws.{mended_count}
 use Rattle.hemgosling.proofs.mend.tell_mending.Goals as goal

@@ -1,4 +1,3 @@
-use borrow.Author.Rules.{rules}
 use Rattle.hemgosling.proofs.mother_judge.Laws.{judges}
 use Rattle.hemgosling.proofs.mother_judge.hem_mother_check.Goals as goal
 

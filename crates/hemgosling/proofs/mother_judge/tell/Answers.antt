@@ -1,5 +1,4 @@
 use mathlib.Core.Path.{refl}
-use borrow.Author.Rules.{rules}
 use Rattle.hemgosling.proofs.mother_judge.tell.Goals as goal
 
 pub returns-in-Fault : goal.returns-in-Fault

@@ -1,4 +1,3 @@
-use borrow.Author.Rules.{rules}
 use Rattle.hemgosling.proofs.mother_play.Laws.{answer_placed}
 use Rattle.hemgosling.proofs.mother_play.frame_into.Goals as goal
 

@@ -1,4 +1,3 @@
-use borrow.Author.Rules.{rules}
 use Rattle.hemgosling.proofs.tell.Laws.{behind_head}
 use Rattle.hemgosling.proofs.mother_play.put_answer.Goals as goal
 

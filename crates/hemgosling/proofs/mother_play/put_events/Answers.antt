@@ -1,11 +1,7 @@
-use Prim.Native.Nat.{◌-◌}
 use mathlib.Core.Path.{refl}
-use native.Mathlib.Omega.{arith}
 use borrow.Author.Rules.{rules}
-use Rattle.mother_player.specs.Event.{told_event}
-use Rattle.mother_player.specs.Frame.{told_events}
-use Rattle.hemgosling.proofs.tell.Laws.{Putting, putting_more, all_put}
-use Rattle.hemgosling.proofs.mother_play.Laws.{place, six}
+use Rattle.hemgosling.proofs.tell.Laws.{putting_more, all_put}
+use Rattle.hemgosling.proofs.mother_play.Laws.{six}
 use Rattle.hemgosling.proofs.mother_play.put_events.Goals as goal
 
 pub loop-i-init : goal.loop-i-init

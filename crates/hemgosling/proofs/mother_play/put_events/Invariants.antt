@@ -1,11 +1,8 @@
 use Prim.Native.Nat.{◌-◌}
-use mathlib.Core.Path.{refl}
-use native.Mathlib.Omega.{arith}
-use borrow.Author.Rules.{rules}
 use Rattle.mother_player.specs.Event.{told_event}
 use Rattle.mother_player.specs.Frame.{told_events}
-use Rattle.hemgosling.proofs.tell.Laws.{Putting, putting_more, all_put}
-use Rattle.hemgosling.proofs.mother_play.Laws.{place, six}
+use Rattle.hemgosling.proofs.tell.Laws.{Putting}
+use Rattle.hemgosling.proofs.mother_play.Laws.{place}
 use Rattle.hemgosling.proofs.mother_play.put_events.Given as goal
 
 abbrev pub invariant-loop-i : goal.invariant-loop-i

@@ -1,4 +1,3 @@
-use borrow.Author.Rules.{rules}
 use Rattle.hemgosling.proofs.play.Laws.{answer_placed}
 use Rattle.hemgosling.proofs.play.frame_into.Goals as goal
 

@@ -1,4 +1,3 @@
-use borrow.Author.Rules.{rules}
 use Rattle.hemgosling.proofs.play.Laws.{answer_put}
 use Rattle.hemgosling.proofs.play.put_answer.Goals as goal
 

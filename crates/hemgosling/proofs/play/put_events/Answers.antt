@@ -1,11 +1,7 @@
-use Prim.Native.Nat.{◌-◌}
 use mathlib.Core.Path.{refl}
-use native.Mathlib.Omega.{arith}
 use borrow.Author.Rules.{rules}
-use Rattle.metroid_player.specs.Event.{told_event}
-use Rattle.metroid_player.specs.Frame.{told_events}
-use Rattle.hemgosling.proofs.tell.Laws.{Putting, putting_more, all_put}
-use Rattle.hemgosling.proofs.play.Laws.{place, five}
+use Rattle.hemgosling.proofs.tell.Laws.{putting_more, all_put}
+use Rattle.hemgosling.proofs.play.Laws.{five}
 use Rattle.hemgosling.proofs.play.put_events.Goals as goal
 
 pub loop-i-init : goal.loop-i-init

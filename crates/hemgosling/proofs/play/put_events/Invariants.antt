@@ -1,11 +1,8 @@
 use Prim.Native.Nat.{◌-◌}
-use mathlib.Core.Path.{refl}
-use native.Mathlib.Omega.{arith}
-use borrow.Author.Rules.{rules}
 use Rattle.metroid_player.specs.Event.{told_event}
 use Rattle.metroid_player.specs.Frame.{told_events}
-use Rattle.hemgosling.proofs.tell.Laws.{Putting, putting_more, all_put}
-use Rattle.hemgosling.proofs.play.Laws.{place, five}
+use Rattle.hemgosling.proofs.tell.Laws.{Putting}
+use Rattle.hemgosling.proofs.play.Laws.{place}
 use Rattle.hemgosling.proofs.play.put_events.Given as goal
 
 abbrev pub invariant-loop-i : goal.invariant-loop-i

@@ -1,6 +1,5 @@
 use mathlib.Core.Path.{◌∙◌}
 use native.Mathlib.Omega.{arith}
-use borrow.Author.Rules.{rules}
 use Rattle.metroid_check.proofs.Countdown.{countdown}
 use Rattle.hemgosling.proofs.play.started_of.Goals as goal
 

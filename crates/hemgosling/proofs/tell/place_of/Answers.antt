@@ -1,4 +1,3 @@
-use borrow.Author.Rules.{rules}
 use Rattle.hemgosling.proofs.tell.Laws.{fault_channel}
 use Rattle.hemgosling.proofs.tell.place_of.Goals as goal
 

@@ -1,4 +1,3 @@
-use borrow.Author.Rules.{rules}
 use Rattle.hemgosling.proofs.tell.Laws.{head_put}
 use Rattle.hemgosling.proofs.tell.put_head.Goals as goal
 

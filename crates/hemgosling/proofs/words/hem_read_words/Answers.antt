@@ -1,4 +1,3 @@
-use borrow.Author.Rules.{rules}
 use Rattle.hemgosling.proofs.words.Laws.{reading_within, reads_into}
 use Rattle.hemgosling.proofs.words.hem_read_words.Goals as goal
 

@@ -1,4 +1,3 @@
-use borrow.Author.Rules.{rules}
 use Rattle.hemgosling.proofs.words.Laws.{writing_within, writes_into}
 use Rattle.hemgosling.proofs.words.hem_write_words.Goals as goal
 

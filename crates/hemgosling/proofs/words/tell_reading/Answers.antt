@@ -1,4 +1,3 @@
-use borrow.Author.Rules.{rules}
 use mathlib.Core.Path.{refl}
 use Rattle.hemgosling.proofs.words.Laws.{read_count, read_offset}
 use Rattle.hemgosling.proofs.words.tell_reading.Goals as goal

@@ -1,4 +1,3 @@
-use borrow.Author.Rules.{rules}
 use mathlib.Core.Path.{refl}
 use Rattle.hemgosling.proofs.words.Laws.{wrote_count}
 use Rattle.hemgosling.proofs.words.tell_writing.Goals as goal

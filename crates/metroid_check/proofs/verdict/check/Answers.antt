@@ -1,5 +1,4 @@
 use native.Mathlib.Omega.{arith}
-use borrow.Author.Rules.{rules}
 use Rattle.metroid_check.proofs.verdict.Laws.{opened_verdict, unopened_verdict}
 use Rattle.metroid_check.proofs.Countdown.{foreseen}
 use Rattle.metroid_check.proofs.verdict.check.Goals as goal

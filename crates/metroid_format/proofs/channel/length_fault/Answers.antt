@@ -1,4 +1,3 @@
-use borrow.Author.Rules.{rules}
 use Rattle.engine_base.proofs.Picks.{picks}
 use Rattle.metroid_format.proofs.channel.Ruled.{fault_of_length}
 use Rattle.metroid_format.proofs.channel.length_fault.Goals as goal

@@ -1,5 +1,4 @@
 use native.Mathlib.Omega.{arith}
-use borrow.Author.Rules.{rules}
 use Rattle.metroid_format.proofs.channel.Ruled.{plays_fault, plays_unfit, plays_length}
 use Rattle.metroid_format.proofs.channel.length_played.Goals as goal
 

@@ -1,11 +1,8 @@
-use Prim.Native.Nat.{ℕ, ◌-◌, ◌≤◌}
-use mathlib.Core.Path.{◌≡◌, refl, ap, ◌∙◌}
+use mathlib.Core.Path.{refl, ap, ◌∙◌}
 use native.Mathlib.Omega.{arith}
-use borrow.Author.Rules.{rules}
 use lib.ListN.{length, length-take}
 use Rattle.engine_base.specs.Address.{address_of}
-use Rattle.metroid_format.specs.Command.{data_limit}
-use Rattle.metroid_format.specs.Channel.{source_of, fuel_of, read_from, read_until}
+use Rattle.metroid_format.specs.Channel.{source_of, read_until}
 use Rattle.metroid_format.proofs.channel.ReadSteps.{read_turn, read_none, read_cut}
 use Rattle.metroid_format.proofs.channel.read_until.Goals as goal
 use Rattle.metroid_format.proofs.channel.read_until.Invariants.{fuel}

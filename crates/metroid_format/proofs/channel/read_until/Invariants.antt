@@ -1,12 +1,8 @@
 use Prim.Native.Nat.{ℕ, ◌-◌, ◌≤◌}
-use mathlib.Core.Path.{◌≡◌, refl, ap, ◌∙◌}
-use native.Mathlib.Omega.{arith}
-use borrow.Author.Rules.{rules}
-use lib.ListN.{length, length-take}
+use mathlib.Core.Path.{◌≡◌}
 use Rattle.engine_base.specs.Address.{address_of}
 use Rattle.metroid_format.specs.Command.{data_limit}
 use Rattle.metroid_format.specs.Channel.{source_of, fuel_of, read_from, read_until}
-use Rattle.metroid_format.proofs.channel.ReadSteps.{read_turn, read_none, read_cut}
 use Rattle.metroid_format.proofs.channel.read_until.Given as goal
 
 abbrev pub fuel : ℕ

@@ -1,4 +1,3 @@
-use borrow.Author.Rules.{rules}
 use Rattle.metroid_format.specs.Channel.{step_of}
 use Rattle.metroid_format.proofs.channel.step_from.Goals as goal
 

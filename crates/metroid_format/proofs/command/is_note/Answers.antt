@@ -1,4 +1,3 @@
-use borrow.Author.Rules.{rules}
 use Rattle.metroid_format.proofs.command.is_note.Goals as goal
 
 pub returns-in-Melodic : goal.returns-in-Melodic

@@ -1,4 +1,3 @@
-use borrow.Author.Rules.{rules}
 use Rattle.engine_base.specs.Envelope.{envelope_ends}
 use Rattle.engine_base.proofs.Picks.{guards}
 use Rattle.metroid_format.proofs.envelope.ends.Goals as goal

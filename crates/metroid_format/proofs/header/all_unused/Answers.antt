@@ -1,4 +1,3 @@
-use borrow.Author.Rules.{rules}
 use Rattle.metroid_format.specs.Header.{all_unused}
 use Rattle.engine_base.proofs.Picks.{picks, guards}
 use Rattle.metroid_format.proofs.header.all_unused.Goals as goal

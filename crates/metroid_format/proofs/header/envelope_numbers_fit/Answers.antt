@@ -1,4 +1,3 @@
-use borrow.Author.Rules.{rules}
 use Rattle.metroid_format.specs.Header.{envelope_numbers_fit}
 use Rattle.engine_base.proofs.Picks.{guards}
 use Rattle.metroid_format.proofs.header.envelope_numbers_fit.Goals as goal

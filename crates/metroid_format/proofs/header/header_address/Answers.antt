@@ -1,4 +1,3 @@
-use borrow.Author.Rules.{rules}
 use Rattle.metroid_format.specs.Header.{header_address}
 use Rattle.metroid_format.proofs.header.header_address.Goals as goal
 

@@ -1,4 +1,3 @@
-use borrow.Author.Rules.{rules}
 use Rattle.metroid_format.specs.Header.{header_number}
 use Rattle.engine_base.proofs.Picks.{guards}
 use Rattle.metroid_format.proofs.header.header_number.Goals as goal

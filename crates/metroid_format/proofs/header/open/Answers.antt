@@ -1,5 +1,4 @@
 use native.Mathlib.Omega.{arith}
-use borrow.Author.Rules.{rules}
 use Rattle.metroid_format.specs.Header.{open_track, number_of, header_of}
 use Rattle.engine_base.proofs.Picks.{answers, guards}
 use Rattle.metroid_format.proofs.header.Answered.{refuses, opens_as}

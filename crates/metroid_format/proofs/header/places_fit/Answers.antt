@@ -1,6 +1,5 @@
 use Prim.Native.Nat.{◌<◌}
 use native.Mathlib.Omega.{arith}
-use borrow.Author.Rules.{rules}
 use Rattle.metroid_format.specs.Header.{places_fit}
 use Rattle.engine_base.proofs.Picks.{guards}
 use Rattle.metroid_format.proofs.header.places_fit.Goals as goal

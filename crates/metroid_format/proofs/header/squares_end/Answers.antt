@@ -1,4 +1,3 @@
-use borrow.Author.Rules.{rules}
 use Rattle.metroid_format.specs.Header.{squares_end}
 use Rattle.engine_base.proofs.Picks.{guards}
 use Rattle.metroid_format.proofs.header.squares_end.Goals as goal

@@ -1,4 +1,3 @@
-use borrow.Author.Rules.{rules}
 use Rattle.metroid_format.specs.Header.{tables_fit}
 use Rattle.engine_base.proofs.Picks.{guards}
 use Rattle.metroid_format.proofs.header.tables_fit.Goals as goal

@@ -1,7 +1,6 @@
 use Prim.Native.Nat.{ℕ}
 use mathlib.Core.List.{List, [], ◌∷◌}
 use mathlib.Core.Path.{◌≡◌}
-use borrow.Author.Rules.{rules}
 use lib.ListN.{get_or}
 use Rattle.engine_base.specs.Bytes.{word_at}
 use Rattle.metroid_format.specs.Header.{voice_of, voices_of}

@@ -1,4 +1,3 @@
-use borrow.Author.Rules.{rules}
 use Rattle.metroid_format.specs.Header.{window_fits}
 use Rattle.metroid_format.proofs.header.window_fits.Goals as goal
 

@@ -1,4 +1,3 @@
-use borrow.Author.Rules.{rules}
 use Rattle.metroid_format.proofs.mend.Laws.{lists_none, lists_one}
 use Rattle.metroid_format.proofs.mend.list_change.Goals as goal
 

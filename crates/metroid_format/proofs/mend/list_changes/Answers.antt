@@ -1,8 +1,6 @@
-use Prim.Native.Nat.{◌-◌}
 use native.Mathlib.Omega.{arith}
 use borrow.Author.Rules.{rules}
-use lib.ListN.{length}
-use Rattle.metroid_format.proofs.mend.Laws.{Listing, listing_none, listing_more, listing_all}
+use Rattle.metroid_format.proofs.mend.Laws.{listing_none, listing_more, listing_all}
 use Rattle.metroid_format.proofs.mend.list_changes.Goals as goal
 
 pub loop-i-init : goal.loop-i-init

@@ -1,8 +1,6 @@
 use Prim.Native.Nat.{◌-◌}
-use native.Mathlib.Omega.{arith}
-use borrow.Author.Rules.{rules}
 use lib.ListN.{length}
-use Rattle.metroid_format.proofs.mend.Laws.{Listing, listing_none, listing_more, listing_all}
+use Rattle.metroid_format.proofs.mend.Laws.{Listing}
 use Rattle.metroid_format.proofs.mend.list_changes.Given as goal
 
 abbrev pub invariant-loop-i : goal.invariant-loop-i

@@ -1,5 +1,4 @@
 use mathlib.Core.Path.{refl}
-use borrow.Author.Rules.{rules}
 use Rattle.metroid_format.proofs.mend.Laws.{there, after_fits, ends_there, passes_found, passes_past, passes_rest}
 use Rattle.metroid_format.proofs.mend.mend_command.Goals as goal
 

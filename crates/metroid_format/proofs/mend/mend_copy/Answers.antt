@@ -1,4 +1,3 @@
-use borrow.Author.Rules.{rules}
 use Rattle.metroid_format.proofs.mend.Owed.{copy_size, copy_fits, copy_mended, array_size}
 use Rattle.metroid_format.proofs.mend.mend_copy.Goals as goal
 

@@ -1,8 +1,5 @@
-use Prim.Native.Nat.{◌-◌}
 use native.Mathlib.Omega.{arith}
-use borrow.Author.Rules.{rules}
-use lib.ListN.{length}
-use Rattle.metroid_format.proofs.mend.Laws.{Midway, midway_none, midway_past, midway_end, midway_closed, midway_falls, midway_more}
+use Rattle.metroid_format.proofs.mend.Laws.{midway_none, midway_past, midway_end, midway_closed, midway_falls, midway_more}
 use Rattle.metroid_format.proofs.mend.mend_data.Goals as goal
 
 pub loop-at-init : goal.loop-at-init

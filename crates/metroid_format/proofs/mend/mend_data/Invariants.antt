@@ -1,8 +1,6 @@
 use Prim.Native.Nat.{◌-◌}
-use native.Mathlib.Omega.{arith}
-use borrow.Author.Rules.{rules}
 use lib.ListN.{length}
-use Rattle.metroid_format.proofs.mend.Laws.{Midway, midway_none, midway_past, midway_end, midway_closed, midway_falls, midway_more}
+use Rattle.metroid_format.proofs.mend.Laws.{Midway}
 use Rattle.metroid_format.proofs.mend.mend_data.Given as goal
 
 abbrev pub invariant-loop-at : goal.invariant-loop-at

@@ -1,4 +1,3 @@
-use borrow.Author.Rules.{rules}
 use Rattle.engine_base.proofs.Picks.{picks}
 use Rattle.metroid_format.proofs.timeline.after_lone.Goals as goal
 

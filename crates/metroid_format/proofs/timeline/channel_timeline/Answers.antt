@@ -1,6 +1,5 @@
 use Prim.Native.Nat.{ℕ, ◌≤◌}
 use native.Mathlib.Omega.{arith}
-use borrow.Author.Rules.{rules}
 use lib.Seq.{take-take}
 use Rattle.metroid_format.specs.Command.{data_limit}
 use Rattle.metroid_format.proofs.timeline.channel_timeline.Goals as goal

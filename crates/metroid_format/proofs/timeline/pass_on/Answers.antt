@@ -1,4 +1,3 @@
-use borrow.Author.Rules.{rules}
 use Rattle.metroid_format.specs.Timeline.{passed_of}
 use Rattle.metroid_format.proofs.timeline.pass_on.Goals as goal
 

@@ -1,4 +1,3 @@
-use borrow.Author.Rules.{rules}
 use Rattle.metroid_format.proofs.timeline.passed_by.Goals as goal
 
 pub returns-in-End : goal.returns-in-End

@@ -1,10 +1,7 @@
-use Prim.Native.Nat.{◌-◌}
 use mathlib.Core.Path.{refl}
-use native.Mathlib.Omega.{arith}
 use borrow.Author.Rules.{rules}
-use lib.ListN.{length-map}
 use Rattle.engine_base.proofs.Picks.{answers}
-use Rattle.metroid_format.proofs.timeline.FirstStop.{Looking, look_on, looked}
+use Rattle.metroid_format.proofs.timeline.FirstStop.{look_on, looked}
 use Rattle.metroid_format.proofs.timeline.soonest_of.Goals as goal
 
 pub loop-i-init : goal.loop-i-init

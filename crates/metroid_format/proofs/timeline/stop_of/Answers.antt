@@ -1,4 +1,3 @@
-use borrow.Author.Rules.{rules}
 use Rattle.engine_base.proofs.Picks.{picks}
 use Rattle.metroid_format.specs.Timeline.{stop_of}
 use Rattle.metroid_format.proofs.timeline.stop_of.Goals as goal

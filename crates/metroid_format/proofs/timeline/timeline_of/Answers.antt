@@ -1,13 +1,8 @@
-use Prim.Native.Nat.{◌+◌, ◌-◌, ◌≤◌}
-use mathlib.Core.Path.{◌≡◌, ap}
+use mathlib.Core.Path.{ap}
 use native.Mathlib.Omega.{arith}
 use native.Mathlib.Nat.{sub-zero}
-use borrow.Author.Rules.{rules}
 use lib.ListN.{length, length-take}
-use Rattle.engine_base.specs.Address.{address_of}
-use Rattle.metroid_format.specs.Channel.{source_of}
-use Rattle.metroid_format.specs.Timeline.{pass_from, timeline_of}
-use Rattle.metroid_format.proofs.timeline.PassBound.{Bounded}
+use Rattle.metroid_format.specs.Timeline.{timeline_of}
 use Rattle.metroid_format.proofs.timeline.PassLoop.{pass_turn, pass_none, pass_bounded, timed}
 use Rattle.metroid_format.proofs.timeline.timeline_of.Goals as goal
 

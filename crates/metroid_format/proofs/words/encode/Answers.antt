@@ -1,9 +1,5 @@
-use Prim.Native.Nat.{◌-◌}
-use native.Mathlib.Omega.{arith}
-use borrow.Author.Rules.{rules}
-use lib.ListN.{length}
 use Rattle.engine_base.proofs.Buffers.{same_length}
-use Rattle.metroid_format.proofs.words.Laws.{Halfway, halfway_none, halfway_more, encodes_past, encodes_refused, encodes_end, bytes_fit}
+use Rattle.metroid_format.proofs.words.Laws.{halfway_none, halfway_more, encodes_past, encodes_refused, encodes_end, bytes_fit}
 use Rattle.metroid_format.proofs.words.encode.Goals as goal
 
 pub loop-i-init : goal.loop-i-init

@@ -1,9 +1,6 @@
 use Prim.Native.Nat.{◌-◌}
-use native.Mathlib.Omega.{arith}
-use borrow.Author.Rules.{rules}
 use lib.ListN.{length}
-use Rattle.engine_base.proofs.Buffers.{same_length}
-use Rattle.metroid_format.proofs.words.Laws.{Halfway, halfway_none, halfway_more, encodes_past, encodes_refused, encodes_end, bytes_fit}
+use Rattle.metroid_format.proofs.words.Laws.{Halfway}
 use Rattle.metroid_format.proofs.words.encode.Given as goal
 
 abbrev pub invariant-loop-i : goal.invariant-loop-i

@@ -1,4 +1,3 @@
-use borrow.Author.Rules.{rules}
 use Rattle.metroid_format.proofs.words.put_pair.Goals as goal
 
 pub returns : goal.returns

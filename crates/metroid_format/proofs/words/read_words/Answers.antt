@@ -1,4 +1,3 @@
-use borrow.Author.Rules.{rules}
 use Rattle.metroid_format.proofs.words.Owed.{reads_short, reads_refused, reads_all}
 use Rattle.metroid_format.proofs.words.read_words.Goals as goal
 

@@ -1,4 +1,3 @@
-use borrow.Author.Rules.{rules}
 use Rattle.metroid_format.proofs.words.Laws.{size_refused, size_found, size_other}
 use Rattle.metroid_format.proofs.words.size_of.Goals as goal
 

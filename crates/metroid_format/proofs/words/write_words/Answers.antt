@@ -1,4 +1,3 @@
-use borrow.Author.Rules.{rules}
 use Rattle.metroid_format.proofs.words.Owed.{writes_invalid, writes_short, writes_long, writes_all}
 use Rattle.metroid_format.proofs.words.write_words.Goals as goal
 

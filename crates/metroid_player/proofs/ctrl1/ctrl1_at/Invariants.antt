@@ -1,11 +1,7 @@
 use Prim.Native.Nat.{◌≤◌, ◌-◌}
 use mathlib.Core.Path.{◌≡◌}
-use native.Mathlib.Numerals.{unary_clauses}
-use borrow.Author.Rules.{rules}
-use borrow.Author.Tests.{eq-eqb, ne_eqb, le-leb, lt-leb}
-use lib.ListN.{length, drop, drop_of_length-le}
+use lib.ListN.{length, drop}
 use Rattle.metroid_player.specs.Ctrl1.{ctrl1_at}
-use Rattle.metroid_player.proofs.ctrl1.Envelope.{envelope_turn}
 use Rattle.metroid_player.proofs.ctrl1.ctrl1_at.Given as goal
 
 abbrev pub invariant-loop-i : goal.invariant-loop-i

@@ -1,4 +1,3 @@
-use borrow.Author.Rules.{rules}
 use Rattle.metroid_player.specs.Event.{melodic_sound}
 use Rattle.engine_base.proofs.Picks.{picks}
 use Rattle.metroid_player.proofs.event.melodic_sound.Goals as goal

@@ -1,4 +1,3 @@
-use borrow.Author.Rules.{rules}
 use Rattle.metroid_player.specs.Event.{noise_sound}
 use Rattle.engine_base.proofs.Picks.{picks}
 use Rattle.metroid_player.proofs.event.noise_sound.Goals as goal

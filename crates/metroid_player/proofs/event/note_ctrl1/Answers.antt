@@ -1,4 +1,3 @@
-use borrow.Author.Rules.{rules}
 use Rattle.metroid_player.specs.Event.{note_ctrl1}
 use Rattle.metroid_player.proofs.event.note_ctrl1.Goals as goal
 

@@ -1,4 +1,3 @@
-use borrow.Author.Rules.{rules}
 use Rattle.metroid_player.specs.Event.{sound_of}
 use Rattle.metroid_player.proofs.event.sound_of.Goals as goal
 

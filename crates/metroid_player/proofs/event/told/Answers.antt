@@ -1,4 +1,3 @@
-use borrow.Author.Rules.{rules}
 use Rattle.metroid_player.proofs.event.told.Goals as goal
 
 pub returns-in-SquareRest : goal.returns-in-SquareRest

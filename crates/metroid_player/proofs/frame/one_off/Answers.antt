@@ -1,4 +1,3 @@
-use borrow.Author.Rules.{rules}
 use Rattle.metroid_player.proofs.frame.Laws.{nothing_off}
 use Rattle.metroid_player.proofs.frame.one_off.Goals as goal
 

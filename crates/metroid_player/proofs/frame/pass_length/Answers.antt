@@ -1,4 +1,3 @@
-use borrow.Author.Rules.{rules}
 use Rattle.metroid_player.proofs.frame.pass_length.Goals as goal
 
 pub returns-in-Nothing : goal.returns-in-Nothing

@@ -1,4 +1,3 @@
-use borrow.Author.Rules.{rules}
 use Rattle.metroid_player.proofs.frame.Laws.{reading_is}
 use Rattle.metroid_player.proofs.frame.read_channel.Goals as goal
 

@@ -1,4 +1,3 @@
-use borrow.Author.Rules.{rules}
 use Rattle.metroid_player.proofs.frame.Laws.{turn_read, turn_begun}
 use Rattle.metroid_player.proofs.frame.read_turn.Goals as goal
 

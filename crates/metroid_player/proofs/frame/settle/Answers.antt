@@ -1,8 +1,4 @@
-use Prim.Native.Nat.{◌-◌}
-use native.Mathlib.Omega.{arith}
-use borrow.Author.Rules.{rules}
-use lib.ListN.{length-map}
-use Rattle.metroid_player.proofs.frame.Laws.{Settling, settling_none, settling_off, settling_plays, settles_events, settles_end, settles_fault}
+use Rattle.metroid_player.proofs.frame.Laws.{settling_none, settling_off, settling_plays, settles_events, settles_end, settles_fault}
 use Rattle.metroid_player.proofs.frame.settle.Goals as goal
 
 pub loop-i-init : goal.loop-i-init

@@ -1,4 +1,3 @@
-use borrow.Author.Rules.{rules}
 use Rattle.metroid_player.proofs.frame.Laws.{turn_reading, turn_sounding, turn_off}
 use Rattle.metroid_player.proofs.frame.take_turn.Goals as goal
 

@@ -1,4 +1,3 @@
-use borrow.Author.Rules.{rules}
 use Rattle.metroid_player.specs.Record.{channel_fits, sound_fits}
 use Rattle.engine_base.proofs.Picks.{picks}
 use Rattle.metroid_player.proofs.record.channel_fits.Goals as goal

@@ -1,9 +1,7 @@
-use Prim.Native.Nat.{◌-◌}
 use mathlib.Core.Path.{refl}
-use native.Mathlib.Omega.{arith}
 use borrow.Author.Rules.{rules}
-use Rattle.engine_base.proofs.Channels.{Fitting, fit_more, fit_not, fit_all}
-use Rattle.metroid_player.specs.Record.{channel_fits, channels_fit}
+use Rattle.engine_base.proofs.Channels.{fit_more, fit_not, fit_all}
+use Rattle.metroid_player.specs.Record.{channel_fits}
 use Rattle.metroid_player.proofs.record.channels_fit.Goals as goal
 
 pub loop-i-init : goal.loop-i-init

@@ -1,4 +1,3 @@
-use borrow.Author.Rules.{rules}
 use Rattle.metroid_player.proofs.record.ended.Goals as goal
 
 pub returns-then-restart : goal.returns-then-restart

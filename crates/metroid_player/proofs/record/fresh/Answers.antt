@@ -1,4 +1,3 @@
-use borrow.Author.Rules.{rules}
 use Rattle.metroid_player.proofs.record.fresh.Goals as goal
 
 pub returns : goal.returns

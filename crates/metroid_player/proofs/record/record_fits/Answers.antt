@@ -1,4 +1,3 @@
-use borrow.Author.Rules.{rules}
 use Rattle.engine_base.proofs.Picks.{picks}
 use Rattle.metroid_player.specs.Record.{record_fits}
 use Rattle.metroid_player.proofs.record.record_fits.Goals as goal

@@ -1,4 +1,3 @@
-use borrow.Author.Rules.{rules}
 use Rattle.metroid_player.specs.Release.{release_of}
 use Rattle.engine_base.proofs.Picks.{picks}
 use Rattle.metroid_player.proofs.release.release_of.Goals as goal

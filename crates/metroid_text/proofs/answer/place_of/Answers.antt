@@ -1,4 +1,3 @@
-use borrow.Author.Rules.{rules}
 use Rattle.metroid_text.proofs.answer.place_of.Goals as goal
 
 pub returns-in-Fault : goal.returns-in-Fault

@@ -1,10 +1,5 @@
-use Prim.Native.Nat.{◌-◌}
-use mathlib.Core.Path.{◌≡◌}
-use native.Mathlib.Omega.{arith}
 use borrow.Author.Rules.{rules}
-use lib.ListN.{length}
-use Rattle.metroid_text.specs.Answer.{event_text, event_most}
-use Rattle.metroid_text.proofs.line.Laws.{Putting, putting_none}
+use Rattle.metroid_text.proofs.line.Laws.{putting_none}
 use Rattle.metroid_text.proofs.answer.Laws.{events_more, events_done}
 use Rattle.metroid_text.proofs.answer.put_events.Goals as goal
 

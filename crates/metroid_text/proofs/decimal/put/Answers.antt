@@ -1,4 +1,3 @@
-use borrow.Author.Rules.{rules}
 use Rattle.metroid_text.proofs.decimal.Laws.{decimal_room, decimal_put}
 use Rattle.metroid_text.proofs.decimal.put.Goals as goal
 

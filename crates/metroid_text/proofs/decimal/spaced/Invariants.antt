@@ -1,9 +1,7 @@
 use Prim.Native.Nat.{◌-◌}
-use native.Mathlib.Omega.{arith}
-use borrow.Author.Rules.{rules}
 use lib.ListN.{length}
 use Rattle.metroid_text.specs.Line.{after_space, spaced_most}
-use Rattle.metroid_text.proofs.line.Laws.{Putting, putting_none, putting_more, putting_done}
+use Rattle.metroid_text.proofs.line.Laws.{Putting}
 use Rattle.metroid_text.proofs.decimal.spaced.Given as goal
 
 abbrev pub invariant-loop-i : goal.invariant-loop-i

@@ -1,4 +1,3 @@
-use borrow.Author.Rules.{rules}
 use Rattle.metroid_text.proofs.hex.Laws.{hex_room, hex_put}
 use Rattle.metroid_text.proofs.hex.put.Goals as goal
 

@@ -1,4 +1,3 @@
-use borrow.Author.Rules.{rules}
 use native.Mathlib.Omega.{arith}
 use Rattle.metroid_text.proofs.line.Laws.{puts_then, spelled}
 use Rattle.metroid_text.proofs.mother.line.Goals as goal

@@ -1,4 +1,3 @@
-use borrow.Author.Rules.{rules}
 use Rattle.metroid_text.proofs.line.Laws.{puts_then}
 use Rattle.metroid_text.proofs.mother.put.Goals as goal
 

@@ -1,5 +1,4 @@
 use mathlib.Core.Path.{sym, ◌∙◌}
-use borrow.Author.Rules.{rules}
 use native.Mathlib.Omega.{arith}
 use Rattle.metroid_text.proofs.line.Laws.{puts_then, puts_within}
 use Rattle.metroid_text.specs.Mother.{fault_words}

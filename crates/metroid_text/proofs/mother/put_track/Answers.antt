@@ -1,4 +1,3 @@
-use borrow.Author.Rules.{rules}
 use native.Mathlib.Omega.{arith}
 use Rattle.metroid_text.proofs.line.Laws.{puts_within}
 use Rattle.metroid_text.proofs.mother.put_track.Goals as goal

@@ -1,4 +1,3 @@
-use borrow.Author.Rules.{rules}
 use Rattle.mother_check.specs.First.{early_at}
 use Rattle.mother_check.proofs.command_faults.early_at.Goals as goal
 

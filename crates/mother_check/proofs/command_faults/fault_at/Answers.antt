@@ -1,4 +1,3 @@
-use borrow.Author.Rules.{rules}
 use Rattle.mother_check.proofs.command_faults.Tests.{past_tested, early_tested, command_tested, offset_small, refusal_fits}
 use Rattle.mother_check.proofs.command_faults.fault_at.Goals as goal
 

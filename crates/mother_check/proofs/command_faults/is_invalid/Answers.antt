@@ -1,4 +1,3 @@
-use borrow.Author.Rules.{rules}
 use Rattle.engine_base.proofs.Picks.{picks}
 use Rattle.mother_check.specs.First.{is_invalid}
 use Rattle.mother_check.proofs.command_faults.is_invalid.Goals as goal

@@ -1,4 +1,3 @@
-use borrow.Author.Rules.{rules}
 use Rattle.mother_check.proofs.command_faults.is_unsounded.Goals as goal
 
 pub returns-in-Square : goal.returns-in-Square

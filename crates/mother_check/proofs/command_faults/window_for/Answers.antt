@@ -1,4 +1,3 @@
-use borrow.Author.Rules.{rules}
 use Rattle.mother_check.specs.First.{window_for}
 use Rattle.mother_check.proofs.command_faults.window_for.Goals as goal
 

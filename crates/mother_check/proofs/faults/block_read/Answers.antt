@@ -1,8 +1,5 @@
-use Prim.Native.Nat.{◌-◌}
 use mathlib.Core.Path.{sym, ◌∙◌}
-use borrow.Author.Rules.{rules}
-use lib.ListN.{length}
-use Rattle.mother_check.proofs.faults.Laws.{Midblock, midblock_none, offset_fits, block_found, block_past, block_stopped, block_ended, block_more}
+use Rattle.mother_check.proofs.faults.Laws.{midblock_none, offset_fits, block_found, block_past, block_stopped, block_ended, block_more}
 use Rattle.mother_check.proofs.faults.block_read.Goals as goal
 
 pub loop-n-init : goal.loop-n-init

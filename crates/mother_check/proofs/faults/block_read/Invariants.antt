@@ -1,8 +1,6 @@
 use Prim.Native.Nat.{◌-◌}
-use mathlib.Core.Path.{sym, ◌∙◌}
-use borrow.Author.Rules.{rules}
 use lib.ListN.{length}
-use Rattle.mother_check.proofs.faults.Laws.{Midblock, midblock_none, offset_fits, block_found, block_past, block_stopped, block_ended, block_more}
+use Rattle.mother_check.proofs.faults.Laws.{Midblock}
 use Rattle.mother_check.proofs.faults.block_read.Given as goal
 
 abbrev pub invariant-loop-n : goal.invariant-loop-n

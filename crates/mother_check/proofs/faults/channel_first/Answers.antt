@@ -1,7 +1,4 @@
-use Prim.Native.Nat.{◌-◌}
-use borrow.Author.Rules.{rules}
-use Rattle.mother_check.specs.Walk.{most_words}
-use Rattle.mother_check.proofs.faults.Lists.{Midlist, midlist_none, list_past, list_done, list_bad, list_goto, list_faulty, list_clean}
+use Rattle.mother_check.proofs.faults.Lists.{midlist_none, list_past, list_done, list_bad, list_goto, list_faulty, list_clean}
 use Rattle.mother_check.proofs.faults.channel_first.Goals as goal
 
 pub loop-n-init : goal.loop-n-init

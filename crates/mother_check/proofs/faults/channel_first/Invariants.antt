@@ -1,7 +1,6 @@
 use Prim.Native.Nat.{◌-◌}
-use borrow.Author.Rules.{rules}
 use Rattle.mother_check.specs.Walk.{most_words}
-use Rattle.mother_check.proofs.faults.Lists.{Midlist, midlist_none, list_past, list_done, list_bad, list_goto, list_faulty, list_clean}
+use Rattle.mother_check.proofs.faults.Lists.{Midlist}
 use Rattle.mother_check.proofs.faults.channel_first.Given as goal
 
 abbrev pub invariant-loop-n : goal.invariant-loop-n

@@ -1,5 +1,4 @@
 use mathlib.Core.Path.{◌∙◌}
-use borrow.Author.Rules.{rules}
 use Rattle.mother_check.specs.Faults.{first_of}
 use Rattle.mother_check.proofs.faults.end_fault.Goals as goal
 

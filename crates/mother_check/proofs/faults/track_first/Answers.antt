@@ -1,7 +1,4 @@
-use Prim.Native.Nat.{◌-◌}
-use native.Mathlib.Omega.{arith}
-use borrow.Author.Rules.{rules}
-use Rattle.mother_check.proofs.faults.Lists.{Midtrack, midtrack_none, track_past, track_unused, track_found, track_clean}
+use Rattle.mother_check.proofs.faults.Lists.{midtrack_none, track_past, track_unused, track_found, track_clean}
 use Rattle.mother_check.proofs.faults.track_first.Goals as goal
 
 pub loop-i-init : goal.loop-i-init

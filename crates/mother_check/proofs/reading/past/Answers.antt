@@ -1,5 +1,4 @@
 use mathlib.Core.Path.{◌∙◌}
-use borrow.Author.Rules.{rules}
 use Rattle.mother_check.proofs.reading.past.Goals as goal
 
 pub returns-in-End : goal.returns-in-End

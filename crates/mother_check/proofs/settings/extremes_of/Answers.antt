@@ -1,11 +1,7 @@
-use Prim.Native.Nat.{◌-◌}
-use mathlib.Core.Logic.{⊎_elim}
 use mathlib.Core.Path.{refl, ◌∙◌}
 use native.Mathlib.Omega.{arith}
-use borrow.Author.Rules.{rules}
-use lib.ListN.{length-map}
 use Rattle.mother_check.specs.Extremes.{extremes_of}
-use Rattle.mother_check.proofs.settings.Laws.{Visiting, visiting_used, visiting_unused, visited}
+use Rattle.mother_check.proofs.settings.Laws.{visiting_used, visiting_unused, visited}
 use Rattle.mother_check.proofs.settings.extremes_of.Goals as goal
 use Rattle.mother_check.proofs.settings.extremes_of.Goals.{then-voice, else-voice}
 

@@ -1,11 +1,6 @@
-use Prim.Native.Nat.{◌-◌}
 use mathlib.Core.Path.{sym, ◌∙◌}
-use native.Mathlib.Omega.{arith}
-use borrow.Author.Rules.{rules}
-use lib.ListN.{length}
-use Rattle.mother_format.specs.Bank.{banks}
 use Rattle.mother_check.specs.Extremes.{with_block}
-use Rattle.mother_check.proofs.settings.Laws.{Gathering, gathering_none, gathered_past, gathered_refused, gathered_end, gathering_more}
+use Rattle.mother_check.proofs.settings.Laws.{gathering_none, gathered_past, gathered_refused, gathered_end, gathering_more}
 use Rattle.mother_check.proofs.settings.with_block.Goals as goal
 
 pub loop-n-init : goal.loop-n-init

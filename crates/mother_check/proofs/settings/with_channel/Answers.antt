@@ -1,12 +1,10 @@
-use Prim.Native.Nat.{◌-◌}
 use mathlib.Core.Bool.{false}
 use mathlib.Core.Path.{sym}
 use native.Mathlib.Omega.{arith}
-use borrow.Author.Rules.{rules}
 use lib.ListN.{length-replicate}
-use Rattle.mother_check.specs.Walk.{addresses, most_words, named}
+use Rattle.mother_check.specs.Walk.{addresses, named}
 use Rattle.mother_check.specs.Extremes.{with_channel}
-use Rattle.mother_check.proofs.settings.Laws.{Walking, walked_past, walked_done, walked_bad, walking_goto, walking_block}
+use Rattle.mother_check.proofs.settings.Laws.{walked_past, walked_done, walked_bad, walking_goto, walking_block}
 use Rattle.mother_check.proofs.settings.with_channel.Goals as goal
 
 pub loop-n-init : goal.loop-n-init

@@ -1,12 +1,7 @@
 use Prim.Native.Nat.{◌-◌}
-use mathlib.Core.Bool.{false}
-use mathlib.Core.Path.{sym}
-use native.Mathlib.Omega.{arith}
-use borrow.Author.Rules.{rules}
-use lib.ListN.{length-replicate}
-use Rattle.mother_check.specs.Walk.{addresses, most_words, named}
+use Rattle.mother_check.specs.Walk.{most_words}
 use Rattle.mother_check.specs.Extremes.{with_channel}
-use Rattle.mother_check.proofs.settings.Laws.{Walking, walked_past, walked_done, walked_bad, walking_goto, walking_block}
+use Rattle.mother_check.proofs.settings.Laws.{Walking}
 use Rattle.mother_check.proofs.settings.with_channel.Given as goal
 
 abbrev pub invariant-loop-n : goal.invariant-loop-n

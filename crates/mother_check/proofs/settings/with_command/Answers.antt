@@ -1,4 +1,3 @@
-use borrow.Author.Rules.{rules}
 use Rattle.mother_check.proofs.settings.with_command.Goals as goal
 
 pub returns-in-Transpose : goal.returns-in-Transpose

@@ -1,9 +1,6 @@
-use Prim.Native.Nat.{◌-◌}
-use native.Mathlib.Omega.{arith}
 use borrow.Author.Rules.{rules}
-use Rattle.mother_format.specs.Bank.{banks}
 use Rattle.mother_check.specs.Extremes.{with_window}
-use Rattle.mother_check.proofs.settings.Laws.{Worsening, worsening_none, worsening_more, worsened}
+use Rattle.mother_check.proofs.settings.Laws.{worsening_none, worsening_more, worsened}
 use Rattle.mother_check.proofs.settings.with_window.Goals as goal
 
 pub loop-l-init : goal.loop-l-init

@@ -1,5 +1,4 @@
 use mathlib.Core.Path.{refl}
-use borrow.Author.Rules.{rules}
 use Rattle.engine_base.proofs.Picks.{pick_yes, pick_not}
 use Rattle.mother_check.specs.Extremes.{worse_window}
 use Rattle.mother_check.proofs.settings.worse_window.Goals as goal

@@ -1,5 +1,4 @@
 use native.Mathlib.Omega.{arith}
-use borrow.Author.Rules.{rules}
 use Rattle.mother_check.proofs.verdict.Laws.{judged, opened_verdict, unopened_verdict}
 use Rattle.mother_check.proofs.verdict.check.Goals as goal
 

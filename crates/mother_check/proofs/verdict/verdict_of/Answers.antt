@@ -1,4 +1,3 @@
-use borrow.Author.Rules.{rules}
 use Rattle.mother_check.proofs.verdict.verdict_of.Goals as goal
 
 pub returns-in-Nothing : goal.returns-in-Nothing

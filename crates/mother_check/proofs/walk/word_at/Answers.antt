@@ -1,5 +1,4 @@
 use mathlib.Core.Path.{refl}
-use borrow.Author.Rules.{rules}
 use Rattle.mother_check.proofs.walk.Laws.{target_fits, row_fits, answers_word, goes_marked, goes_unmarked}
 use Rattle.mother_check.proofs.walk.word_at.Goals as goal
 

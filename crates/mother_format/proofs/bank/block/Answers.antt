@@ -1,4 +1,3 @@
-use borrow.Author.Rules.{rules}
 use Rattle.mother_format.specs.Bank.{block_of}
 use Rattle.engine_base.proofs.Picks.{picks, guards}
 use Rattle.mother_format.proofs.bank.block.Goals as goal

@@ -1,5 +1,4 @@
 use Prim.Native.Nat.{ℕ}
-use borrow.Author.Rules.{rules}
 use lib.ListN.{get_or-append}
 use Rattle.mother_format.proofs.bank.Joined.{byte_right}
 use Rattle.mother_format.proofs.bank.byte.Goals as goal

@@ -1,4 +1,3 @@
-use borrow.Author.Rules.{rules}
 use Rattle.mother_format.proofs.bank.published_places.Goals as goal
 
 pub returns-in-Low : goal.returns-in-Low

@@ -1,4 +1,3 @@
-use borrow.Author.Rules.{rules}
 use Rattle.mother_format.proofs.bank.Joined.{word_left, word_right, word_across}
 use Rattle.mother_format.proofs.bank.word.Goals as goal
 

@@ -1,4 +1,3 @@
-use borrow.Author.Rules.{rules}
 use Rattle.mother_format.specs.Channel.{length_at}
 use Rattle.mother_format.proofs.channel.length_at.Goals as goal
 

@@ -1,4 +1,3 @@
-use borrow.Author.Rules.{rules}
 use Rattle.mother_format.specs.Channel.{length_fault}
 use Rattle.engine_base.proofs.Picks.{picks}
 use Rattle.mother_format.proofs.channel.length_fault.Goals as goal

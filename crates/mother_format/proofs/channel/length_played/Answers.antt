@@ -1,4 +1,3 @@
-use borrow.Author.Rules.{rules}
 use Rattle.mother_format.proofs.channel.length_played.Goals as goal
 
 pub returns-in-Byte : goal.returns-in-Byte

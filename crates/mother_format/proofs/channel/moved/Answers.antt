@@ -1,4 +1,3 @@
-use borrow.Author.Rules.{rules}
 use Rattle.engine_base.proofs.Picks.{picks}
 use Rattle.mother_format.proofs.channel.moved.Goals as goal
 

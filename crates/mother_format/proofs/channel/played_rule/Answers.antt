@@ -1,5 +1,4 @@
 use native.Mathlib.Omega.{arith}
-use borrow.Author.Rules.{rules}
 use Rattle.mother_format.specs.Channel.{played_rule}
 use Rattle.engine_base.proofs.Picks.{picks}
 use Rattle.mother_format.proofs.channel.Sizes.{next_fits, offset_fits}

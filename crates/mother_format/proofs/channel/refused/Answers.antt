@@ -1,5 +1,4 @@
 use borrow.Author.Tests.{le-leb, lt-leb}
-use borrow.Author.Rules.{rules}
 use Rattle.mother_format.proofs.channel.refused.Goals as goal
 
 pub returns-then-number-lt-INVALID_COMMAND : goal.returns-then-number-lt-INVALID_COMMAND

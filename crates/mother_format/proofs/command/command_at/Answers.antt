@@ -1,4 +1,3 @@
-use borrow.Author.Rules.{rules}
 use Rattle.mother_format.specs.Command.{command_at}
 use Rattle.engine_base.proofs.Picks.{answers, picks}
 use Rattle.mother_format.proofs.command.command_at.Goals as goal

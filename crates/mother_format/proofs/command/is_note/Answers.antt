@@ -1,4 +1,3 @@
-use borrow.Author.Rules.{rules}
 use Rattle.mother_format.proofs.command.is_note.Goals as goal
 
 pub returns-in-Square : goal.returns-in-Square

@@ -1,4 +1,3 @@
-use borrow.Author.Rules.{rules}
 use Rattle.mother_format.specs.Command.{melodic_rule}
 use Rattle.engine_base.proofs.Picks.{picks, guards}
 use Rattle.mother_format.proofs.command.melodic_rule.Goals as goal

@@ -1,4 +1,3 @@
-use borrow.Author.Rules.{rules}
 use Rattle.mother_format.specs.Command.{noise_rule}
 use Rattle.engine_base.proofs.Picks.{picks}
 use Rattle.mother_format.proofs.command.noise_rule.Goals as goal

@@ -1,4 +1,3 @@
-use borrow.Author.Rules.{rules}
 use Rattle.mother_format.specs.Command.{rule_of}
 use Rattle.engine_base.proofs.Picks.{picks}
 use Rattle.mother_format.proofs.command.rule_of.Goals as goal

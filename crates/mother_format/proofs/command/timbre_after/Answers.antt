@@ -1,4 +1,3 @@
-use borrow.Author.Rules.{rules}
 use Rattle.mother_format.specs.Command.{timbre_after}
 use Rattle.engine_base.proofs.Picks.{picks}
 use Rattle.mother_format.proofs.command.timbre_after.Goals as goal

@@ -1,4 +1,3 @@
-use borrow.Author.Rules.{rules}
 use Rattle.engine_base.specs.Envelope.{envelope_address}
 use Rattle.mother_format.proofs.envelope.address_of.Goals as goal
 

@@ -1,4 +1,3 @@
-use borrow.Author.Rules.{rules}
 use Rattle.mother_format.specs.Envelope.{envelope_fault}
 use Rattle.engine_base.proofs.Picks.{guards}
 use Rattle.mother_format.proofs.envelope.fault.Goals as goal

@@ -1,4 +1,3 @@
-use borrow.Author.Rules.{rules}
 use Rattle.engine_base.proofs.Picks.{picks}
 use Rattle.mother_format.proofs.envelope.Across.{ends_right, first_within, ends_across}
 use Rattle.mother_format.proofs.envelope.shows_end.Goals as goal

@@ -1,4 +1,3 @@
-use borrow.Author.Rules.{rules}
 use Rattle.mother_format.specs.Header.{address_fits}
 use Rattle.engine_base.proofs.Picks.{guards}
 use Rattle.mother_format.proofs.header.address_fits.Goals as goal

@@ -1,4 +1,3 @@
-use borrow.Author.Rules.{rules}
 use Rattle.mother_format.specs.Header.{addresses_fit}
 use Rattle.engine_base.proofs.Picks.{guards}
 use Rattle.mother_format.proofs.header.addresses_fit.Goals as goal

@@ -1,4 +1,3 @@
-use borrow.Author.Rules.{rules}
 use Rattle.mother_format.specs.Header.{header_address}
 use Rattle.mother_format.proofs.header.header_address.Goals as goal
 

@@ -1,5 +1,4 @@
 use borrow.Author.Tests.{eq-eqb, ne_eqb}
-use borrow.Author.Rules.{rules}
 use Rattle.mother_format.specs.Header.{open_track, number_of}
 use Rattle.engine_base.proofs.Picks.{answers}
 use Rattle.mother_format.proofs.header.Opening.{header_fits}

@@ -1,5 +1,4 @@
 use borrow.Author.Tests.{eq-eqb, ne_eqb}
-use borrow.Author.Rules.{rules}
 use Rattle.mother_format.proofs.header.open_header.Goals as goal
 
 pub returns-then-number-ne0 : goal.returns-then-number-ne0

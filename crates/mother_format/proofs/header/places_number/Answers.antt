@@ -1,4 +1,3 @@
-use borrow.Author.Rules.{rules}
 use Rattle.mother_format.specs.Header.{places_number}
 use Rattle.engine_base.proofs.Picks.{guards}
 use Rattle.mother_format.proofs.header.places_number.Goals as goal

@@ -1,4 +1,3 @@
-use borrow.Author.Rules.{rules}
 use Rattle.mother_format.specs.Header.{track_of}
 use Rattle.mother_format.proofs.header.track_of.Goals as goal
 

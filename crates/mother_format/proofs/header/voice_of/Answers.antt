@@ -1,4 +1,3 @@
-use borrow.Author.Rules.{rules}
 use Rattle.mother_format.specs.Header.{voice_of}
 use Rattle.engine_base.proofs.Picks.{picks}
 use Rattle.mother_format.proofs.header.voice_of.Goals as goal

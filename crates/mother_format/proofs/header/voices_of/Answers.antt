@@ -1,4 +1,3 @@
-use borrow.Author.Rules.{rules}
 use Rattle.mother_format.specs.Header.{voices_of}
 use Rattle.mother_format.proofs.header.voices_of.Goals as goal
 

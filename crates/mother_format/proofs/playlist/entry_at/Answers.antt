@@ -1,4 +1,3 @@
-use borrow.Author.Rules.{rules}
 use Rattle.mother_format.specs.Playlist.{entry_at}
 use Rattle.engine_base.proofs.Picks.{answers, picks, guards}
 use Rattle.mother_format.proofs.playlist.Next.{list_fits}

@@ -1,4 +1,3 @@
-use borrow.Author.Rules.{rules}
 use Rattle.mother_format.specs.Playlist.{goto_at}
 use Rattle.engine_base.proofs.Picks.{pick_false, picks, guards}
 use Rattle.mother_format.proofs.playlist.goto_at.Goals as goal

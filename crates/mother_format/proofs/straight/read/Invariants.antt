@@ -1,8 +1,6 @@
 use Prim.Native.Nat.{◌-◌}
-use mathlib.Core.Path.{sym, ◌∙◌}
-use borrow.Author.Rules.{rules}
 use lib.ListN.{length}
-use Rattle.mother_format.proofs.straight.Laws.{Midway, midway_none, more_few, read_refused, read_end, read_more, read_past}
+use Rattle.mother_format.proofs.straight.Laws.{Midway}
 use Rattle.mother_format.proofs.straight.read.Given as goal
 
 abbrev pub invariant-loop-n : goal.invariant-loop-n

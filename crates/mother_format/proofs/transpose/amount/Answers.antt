@@ -1,7 +1,6 @@
 use Prim.Native.Nat.{◌-◌}
 use mathlib.Core.Path.{◌∙◌}
 use native.Mathlib.Omega.{arith}
-use borrow.Author.Rules.{rules}
 use borrow.Author.Tests.{lt-ltb, le-ltb}
 use Rattle.mother_format.specs.Transpose.{amount_of}
 use Rattle.mother_format.proofs.transpose.Signed.{read_small, minus_fits, read_minus}

@@ -1,7 +1,6 @@
 use Prim.Native.Nat.{◌-◌, ◌%◌}
 use mathlib.Core.Path.{ap}
 use native.Mathlib.Numerals.{add-one}
-use borrow.Author.Rules.{rules}
 use borrow.Author.Tests.{lt-ltb, le-ltb}
 use lib.Dec.{eqb}
 use Rattle.mother_format.specs.Transpose.{amount_of, is_odd}

@@ -1,5 +1,4 @@
 use native.Mathlib.Omega.{arith}
-use borrow.Author.Rules.{rules}
 use Rattle.mother_format.specs.Transpose.{transposed_of}
 use Rattle.engine_base.proofs.Picks.{picks}
 use Rattle.mother_format.proofs.transpose.Signed.{add_fits, sounds_below, sounds_above, cast_fits, sounds}

@@ -1,8 +1,4 @@
-use Prim.Native.Nat.{◌-◌}
-use borrow.Author.Rules.{rules}
-use Rattle.engine_base.specs.Envelope.{envelope_reach}
-use Rattle.mother_format.specs.Bank.{banks}
-use Rattle.mother_player.proofs.ctrl1.Envelope.{Along, along_none, past_reach, past_banks, silenced, restored, shown, along}
+use Rattle.mother_player.proofs.ctrl1.Envelope.{along_none, past_reach, past_banks, silenced, restored, shown, along}
 use Rattle.mother_player.proofs.ctrl1.ctrl1_at.Goals as goal
 
 pub loop-i-init : goal.loop-i-init

@@ -1,8 +1,7 @@
 use Prim.Native.Nat.{◌-◌}
-use borrow.Author.Rules.{rules}
 use Rattle.engine_base.specs.Envelope.{envelope_reach}
 use Rattle.mother_format.specs.Bank.{banks}
-use Rattle.mother_player.proofs.ctrl1.Envelope.{Along, along_none, past_reach, past_banks, silenced, restored, shown, along}
+use Rattle.mother_player.proofs.ctrl1.Envelope.{Along}
 use Rattle.mother_player.proofs.ctrl1.ctrl1_at.Given as goal
 
 abbrev pub invariant-loop-i : goal.invariant-loop-i

@@ -1,4 +1,3 @@
-use borrow.Author.Rules.{rules}
 use Rattle.mother_player.specs.Ctrl1.{half_of}
 use Rattle.engine_base.proofs.Picks.{picks}
 use Rattle.mother_player.proofs.ctrl1.half.Goals as goal

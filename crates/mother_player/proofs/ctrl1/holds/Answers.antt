@@ -1,4 +1,3 @@
-use borrow.Author.Rules.{rules}
 use Rattle.mother_player.proofs.ctrl1.Envelope.{in_first, in_second, in_none}
 use Rattle.mother_player.proofs.ctrl1.holds.Goals as goal
 

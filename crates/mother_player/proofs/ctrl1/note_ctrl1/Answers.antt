@@ -1,4 +1,3 @@
-use borrow.Author.Rules.{rules}
 use Rattle.mother_player.proofs.ctrl1.Envelope.{no_envelope, outside, along_envelope}
 use Rattle.mother_player.proofs.ctrl1.note_ctrl1.Goals as goal
 

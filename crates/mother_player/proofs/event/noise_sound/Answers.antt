@@ -1,4 +1,3 @@
-use borrow.Author.Rules.{rules}
 use Rattle.mother_player.specs.Event.{noise_sound}
 use Rattle.mother_player.proofs.event.Tables.{byte_is, byte_behind}
 use Rattle.engine_base.proofs.Picks.{picks}

@@ -1,4 +1,3 @@
-use borrow.Author.Rules.{rules}
 use Rattle.mother_player.proofs.event.Tables.{period_is}
 use Rattle.mother_player.proofs.event.period_at.Goals as goal
 

@@ -1,4 +1,3 @@
-use borrow.Author.Rules.{rules}
 use Rattle.mother_player.proofs.event.sound_of.Goals as goal
 
 pub returns-in-Square : goal.returns-in-Square

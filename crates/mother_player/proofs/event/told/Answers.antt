@@ -1,4 +1,3 @@
-use borrow.Author.Rules.{rules}
 use Rattle.mother_player.proofs.event.told.Goals as goal
 
 pub returns-in-Off : goal.returns-in-Off

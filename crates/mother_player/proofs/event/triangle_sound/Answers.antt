@@ -1,4 +1,3 @@
-use borrow.Author.Rules.{rules}
 use Rattle.mother_player.specs.Event.{triangle_sound}
 use Rattle.engine_base.proofs.Picks.{picks}
 use Rattle.mother_player.proofs.event.triangle_sound.Goals as goal

@@ -1,4 +1,3 @@
-use borrow.Author.Rules.{rules}
 use Rattle.mother_player.specs.Frame.{frame_of_track}
 use Rattle.engine_base.proofs.Picks.{picks}
 use Rattle.mother_player.proofs.frame.frame_of_track.Goals as goal

@@ -1,8 +1,5 @@
 use Prim.Native.Nat.{◌-◌}
-use native.Mathlib.Omega.{arith}
-use borrow.Author.Rules.{rules}
-use lib.ListN.{length-map}
-use Rattle.mother_player.proofs.frame.Laws.{Settling, settling_none, settling_off, settling_plays, settles_events, settles_end, settles_fault}
+use Rattle.mother_player.proofs.frame.Laws.{Settling}
 use Rattle.mother_player.proofs.frame.settle.Given as goal
 
 abbrev pub invariant-loop-i : goal.invariant-loop-i

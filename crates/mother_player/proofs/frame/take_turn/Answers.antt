@@ -1,4 +1,3 @@
-use borrow.Author.Rules.{rules}
 use Rattle.mother_player.specs.Frame.{turn_of}
 use Rattle.mother_player.proofs.frame.Laws.{turn_reading}
 use Rattle.engine_base.proofs.Picks.{picks}

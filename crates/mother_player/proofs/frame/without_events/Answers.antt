@@ -1,4 +1,3 @@
-use borrow.Author.Rules.{rules}
 use Rattle.mother_player.proofs.frame.without_events.Goals as goal
 
 pub returns : goal.returns

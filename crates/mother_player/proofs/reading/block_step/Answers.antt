@@ -1,5 +1,4 @@
 use mathlib.Core.Path.{◌∙◌}
-use borrow.Author.Rules.{rules}
 use Rattle.mother_player.proofs.reading.block_step.Goals as goal
 
 pub returns : goal.returns

@@ -1,5 +1,4 @@
 use mathlib.Core.Path.{◌∙◌}
-use borrow.Author.Rules.{rules}
 use Rattle.mother_player.proofs.reading.Laws.{row_within, entry_by}
 use Rattle.mother_player.proofs.reading.list_step.Goals as goal
 

@@ -1,8 +1,6 @@
-use Prim.Native.Nat.{◌-◌, ◌≤◌}
-use mathlib.Core.Path.{◌≡◌, refl, ◌∙◌}
+use mathlib.Core.Path.{refl, ◌∙◌}
 use native.Mathlib.Omega.{arith}
-use borrow.Author.Rules.{rules}
-use Rattle.mother_player.specs.Reading.{most_commands, read_from, read_until}
+use Rattle.mother_player.specs.Reading.{most_commands, read_until}
 use Rattle.mother_player.proofs.reading.Laws.{read_turn, read_none}
 use Rattle.mother_player.proofs.reading.read_until.Goals as goal
 

@@ -1,9 +1,6 @@
 use Prim.Native.Nat.{◌-◌, ◌≤◌}
-use mathlib.Core.Path.{◌≡◌, refl, ◌∙◌}
-use native.Mathlib.Omega.{arith}
-use borrow.Author.Rules.{rules}
+use mathlib.Core.Path.{◌≡◌}
 use Rattle.mother_player.specs.Reading.{most_commands, read_from, read_until}
-use Rattle.mother_player.proofs.reading.Laws.{read_turn, read_none}
 use Rattle.mother_player.proofs.reading.read_until.Given as goal
 
 abbrev pub invariant-loop-count : goal.invariant-loop-count

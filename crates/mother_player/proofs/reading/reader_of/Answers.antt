@@ -1,4 +1,3 @@
-use borrow.Author.Rules.{rules}
 use Rattle.mother_player.specs.Reading.{first_reader}
 use Rattle.engine_base.proofs.Picks.{picks}
 use Rattle.mother_player.proofs.reading.reader_of.Goals as goal

@@ -1,4 +1,3 @@
-use borrow.Author.Rules.{rules}
 use Rattle.mother_player.proofs.reading.set_length.Goals as goal
 
 pub returns-in-Square : goal.returns-in-Square

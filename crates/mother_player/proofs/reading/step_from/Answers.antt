@@ -1,4 +1,3 @@
-use borrow.Author.Rules.{rules}
 use Rattle.mother_player.proofs.reading.Laws.{step_by_lem}
 use Rattle.mother_player.proofs.reading.step_from.Goals as goal
 

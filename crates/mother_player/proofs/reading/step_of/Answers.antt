@@ -1,4 +1,3 @@
-use borrow.Author.Rules.{rules}
 use Rattle.mother_player.proofs.reading.step_of.Goals as goal
 
 pub returns-in-End : goal.returns-in-End

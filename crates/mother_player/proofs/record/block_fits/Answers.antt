@@ -1,4 +1,3 @@
-use borrow.Author.Rules.{rules}
 use Rattle.mother_player.specs.Record.{block_fits}
 use Rattle.engine_base.proofs.Picks.{guards}
 use Rattle.mother_player.proofs.record.block_fits.Goals as goal

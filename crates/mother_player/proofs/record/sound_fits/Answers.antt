@@ -1,4 +1,3 @@
-use borrow.Author.Rules.{rules}
 use Rattle.mother_player.specs.Record.{sound_fits}
 use Rattle.engine_base.proofs.Picks.{picks}
 use Rattle.mother_player.proofs.record.sound_fits.Goals as goal

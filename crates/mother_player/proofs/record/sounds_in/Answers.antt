@@ -1,5 +1,4 @@
 use native.Mathlib.Omega.{arith}
-use borrow.Author.Rules.{rules}
 use Rattle.mother_player.proofs.record.Laws.{square_sounds, triangle_sounds}
 use Rattle.engine_base.proofs.Picks.{picks}
 use Rattle.mother_player.proofs.record.sounds_in.Goals as goal

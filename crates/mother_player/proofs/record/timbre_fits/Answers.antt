@@ -1,4 +1,3 @@
-use borrow.Author.Rules.{rules}
 use Rattle.mother_player.proofs.record.timbre_fits.Goals as goal
 
 pub returns-in-Square : goal.returns-in-Square

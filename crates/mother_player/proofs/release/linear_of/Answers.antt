@@ -1,4 +1,3 @@
-use borrow.Author.Rules.{rules}
 use Rattle.mother_player.specs.Release.{linear_of}
 use Rattle.engine_base.proofs.Picks.{picks}
 use Rattle.mother_player.proofs.release.linear_of.Goals as goal

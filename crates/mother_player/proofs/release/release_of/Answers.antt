@@ -1,4 +1,3 @@
-use borrow.Author.Rules.{rules}
 use Rattle.mother_player.specs.Release.{release_of}
 use Rattle.engine_base.proofs.Picks.{picks}
 use Rattle.mother_player.proofs.release.release_of.Goals as goal

@@ -1,6 +1,4 @@
 use Prim.Native.Nat.{◌≤◌, ◌-◌}
-use native.Mathlib.Omega.{arith}
-use borrow.Author.Rules.{rules}
 use Rattle.samples.proofs.examples.show_window.Given as goal
 
 abbrev pub invariant-loop-l : goal.invariant-loop-l

@@ -1,4 +1,3 @@
-use borrow.Author.Rules.{rules}
 use Rattle.engine_base.proofs.Picks.{pick_eq, pick_ne, answers}
 use Rattle.metroid_player.specs.Frame.{frame_of, told_framed}
 use Rattle.metroid_player.proofs.record.Player.frame.Goals as goal

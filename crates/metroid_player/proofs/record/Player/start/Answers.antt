@@ -1,4 +1,3 @@
-use borrow.Author.Rules.{rules}
 use Rattle.engine_base.proofs.Picks.{answers}
 use Rattle.metroid_player.specs.Frame.{told_started}
 use Rattle.metroid_player.proofs.frame.Laws.{started, not_started}

@@ -1,4 +1,3 @@
-use borrow.Author.Rules.{rules}
 use Rattle.mother_player.specs.Frame.{frame_of, told_framed}
 use Rattle.engine_base.proofs.Picks.{answers, pick_eq, pick_ne}
 use Rattle.mother_player.proofs.record.Player.frame.Goals as goal

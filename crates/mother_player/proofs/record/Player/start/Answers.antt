@@ -1,4 +1,3 @@
-use borrow.Author.Rules.{rules}
 use Rattle.mother_player.specs.Frame.{start_of, told_started}
 use Rattle.engine_base.proofs.Picks.{answers}
 use Rattle.mother_player.proofs.record.Player.start.Goals as goal
