@@ -12,4 +12,4 @@ returns-then-byte-ne0 c = rw (← c.low4-low.ensures) (search picks depth 12)
 
 pub returns : goal.returns
 unfolding release_of
-returns c = rw (← c.low4-low.ensures, ← c.dynamic_of-after.ensures) (search picks depth 12)
+returns c = rw (← c.low4-low.ensures, c.dynamic_of-after.ensures) (search picks depth 12)

@@ -1,4 +1,4 @@
-use mathlib.Core.Path.{◌∙◌}
+use borrow.Author.Rules.{rules}
 use Rattle.mother_check.proofs.reading.past.Goals as goal
 
 pub returns-in-End : goal.returns-in-End
@@ -14,7 +14,7 @@ pub returns-in-EndLoop : goal.returns-in-EndLoop
 returns-in-EndLoop c = simp c.in-EndLoop.is
 
 pub returns-in-Length : goal.returns-in-Length
-returns-in-Length c = c.past_note.ensures ∙ simp c.in-Length.is
+returns-in-Length c = simp c.in-Length.is (search rules)
 
 pub returns-in-BeginLoop : goal.returns-in-BeginLoop
 returns-in-BeginLoop c = simp c.in-BeginLoop.is
@@ -23,4 +23,4 @@ pub returns-in-Timbre : goal.returns-in-Timbre
 returns-in-Timbre c = simp c.in-Timbre.is
 
 pub returns-in-Note : goal.returns-in-Note
-returns-in-Note c = c.past_note-in-Note.ensures ∙ simp c.in-Note.is
+returns-in-Note c = simp c.in-Note.is (search rules)
