@@ -1,4 +1,4 @@
--- What `playedAt` says, by the rule of the byte where the command stands.
+-- What `played_at` says, by the rule of the byte where the command stands.
 use Prim.Native.Nat.{ℕ, ◌+◌, ◌/◌, ◌%◌, ◌<◌}
 use mathlib.Core.List.{List}
 use mathlib.Core.Path.{◌≡◌, refl, sym}

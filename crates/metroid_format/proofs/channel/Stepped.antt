@@ -1,4 +1,4 @@
--- What a command can do to a cursor: the cases of `playedAt` and `step_of`, with what holds in each.
+-- What a command can do to a cursor: the cases of `played_at` and `step_of`, with what holds in each.
 use Prim.Native.Nat.{ℕ, ◌+◌, ◌-◌, ◌/◌, ◌%◌, ◌≤◌, ◌<◌, max}
 use mathlib.Core.Bool.{true}
 use mathlib.Core.List.{List}
