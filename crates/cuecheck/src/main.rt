@@ -1,11 +1,9 @@
 // Reads a bank and prints the verdict of each track, with the published places.
 #![tactic(auto)]
 
-ghost use Rattle.std.specs.Prelude.{◌≤◌, ◌≡◌, length, take};
-ghost use Rattle.io.specs.Counts.{IsPrefixLen};
+ghost use Rattle.std.specs.Prelude.{◌≡◌};
 ghost use Rattle.metroid_format.specs.Bank.{published};
 ghost use Rattle.metroid_check.specs.Verdict.{verdict_of};
-ghost use Rattle.metroid_text.specs.Line.{line_most};
 ghost use Rattle.metroid_text.specs.Verdict.{verdict_text, verdict_line};
 
 use metroid_check::verdict;
@@ -21,50 +19,34 @@ fn verdict_of(bytes: &[u8], track: u32) -> Verdict
     verdict::check(bytes, bank::published_places(0, 0), track)
 }
 
-fn line_of(bytes: &[u8], track: u32, out: &mut [u8]) -> usize
-    requires { line_most ≤ length out.old }
-    ensures prefix_len { IsPrefixLen result out.new }
-    ensures out_after { take result out.new ≡ verdict_line track (verdict_of bytes.now (published 0 0) track) }
+// The line of a track, in a lent buffer.
+fn line_of<'a>(bytes: &[u8], track: u32, out: &'a mut [u8; LINE_MOST]) -> &'a [u8]
+    ensures { result.now ≡ verdict_line track (verdict_of bytes.now (published 0 0) track) }
 {
-    metroid_text::verdict::line(track, verdict_of(bytes, track), out)
+    let verdict = verdict_of(bytes, track);
+    let n = metroid_text::verdict::line(track, verdict, out);
+    &out[..n]
 }
 
-// No track of an input of another length is looked at.
-fn text_of(bytes: &[u8], out: &mut [u8]) -> usize
-    requires { line_most ≤ length out.old }
-    ensures prefix_len { IsPrefixLen result out.new }
-    ensures out_after { take result out.new ≡ verdict_text (verdict_of bytes.now (published 0 0) 0) }
+// The verdict without a track: no track of an input of another length is looked at.
+fn text_of<'a>(bytes: &[u8], out: &'a mut [u8; LINE_MOST]) -> &'a [u8]
+    ensures { result.now ≡ verdict_text (verdict_of bytes.now (published 0 0) 0) }
 {
-    metroid_text::verdict::text(verdict_of(bytes, 0), out)
-}
-
-fn print_line(bytes: &[u8], track: u32) {
-    let mut out = [0u8; LINE_MOST];
-    let n = line_of(bytes, track, &mut out);
-    io::write_all(1, &out[..n]);
-}
-
-fn print_lines(bytes: &[u8]) {
-    let mut track: u32 = 0;
-    while track < TRACKS {
-        print_line(bytes, track);
-        track += 1;
-    }
-}
-
-fn print_text(bytes: &[u8]) {
-    let mut out = [0u8; LINE_MOST];
-    let n = text_of(bytes, &mut out);
-    io::write_all(1, &out[..n]);
+    let verdict = verdict_of(bytes, 0);
+    let n = metroid_text::verdict::text(verdict, out);
+    &out[..n]
 }
 
 fn main() {
     // one byte more than a bank, to know that the input is too long
-    let mut bytes = [0u8; 16385];
+    let mut bytes = [0; bank::BANK_SIZE + 1];
     let n = io::read_full(0, &mut bytes);
+    let input = &bytes[..n];
     if n == bank::BANK_SIZE {
-        print_lines(&bytes[..n]);
+        for track in 0..TRACKS {
+            io::write_all(1, line_of(input, track, &mut [0; LINE_MOST]));
+        }
     } else {
-        print_text(&bytes[..n]);
+        io::write_all(1, text_of(input, &mut [0; LINE_MOST]));
     }
 }

@@ -1,28 +1,23 @@
 -- A lent buffer that is filled, as far as the values fit.
-use Prim.Native.Nat.{ℕ, suc, ◌+◌, ◌≤◌, ◌<◌}
+use Prim.Native.Nat.{ℕ, suc, ◌+◌, ◌-◌, ◌≤◌, ◌<◌}
 use mathlib.Core.List.{List, [], ◌∷◌, ◌++◌}
-use mathlib.Core.Path.{◌≡◌, refl, ◌∙◌}
-use native.Mathlib.Nat.{add-zero, add-suc, suc-add, add_assoc}
-use native.Mathlib.Numerals.{add-one}
+use mathlib.Core.Path.{◌≡◌, refl, sym, ap, subst, ◌∙◌}
+use native.Mathlib.Nat.{add-zero, add-suc, suc-add}
 use native.Mathlib.Omega.{arith}
-use lib.ListN.{length, get_or, set, drop, drop_of_length-le, length-set, length-append}
-use lib.Seq.{sets, set_out, length-sets, drop-cons}
+use lib.ListN.{length, set, take, drop, length-append, take-append-drop}
+use Rattle.std.proofs.lemmas.List.{append_assoc}
+use lib.Seq.{sets, sets-eq, set_out, length-sets, length-take-le, drop-drop}
+use borrow.Rule.Slice.PartMut.{put_mid}
 
-pub sets_append : (l : List ℕ) (i : ℕ) (vs ws : List ℕ) → sets l i (vs ++ ws) ≡ sets (sets l i vs) (i + length vs) ws
+pub sets_append : {A : Type 0} (l : List A) (i : ℕ) (vs ws : List A) → sets l i (vs ++ ws) ≡ sets (sets l i vs) (i + length vs) ws
 sets_append l i [] ws = rw add-zero
 sets_append l i (v ∷ vs) ws = rw (add-suc i (length vs), ← suc-add i (length vs)) (sets_append (set l i v) (suc i) vs ws)
-
-pub same_length : (a b c : List ℕ) → length a ≡ length b → length b ≡ length c → length a ≡ length c
-same_length a b c p q = p ∙ q
 
 -- with n values of the whole written, the rest is still to come
 pub record Written (before whole now : List ℕ) (n : ℕ) (rest : List ℕ) : Type 0 where
   pub count : length whole ≡ n + length rest
   pub buffer : sets before 0 whole ≡ sets now n rest
   pub size : length now ≡ length before
-
-pub written_none : (before whole : List ℕ) → Written before whole before 0 whole
-written_none before whole = record { count = omega arith; buffer = refl; size = refl }
 
 pub written_more : {before whole now rest : List ℕ} {n : ℕ} (vs : List ℕ) → Written before whole now n (vs ++ rest) → Written before whole (sets now n vs) (n + length vs) rest
 written_more {now = now} {rest = rest} {n = n} vs w =
@@ -33,26 +28,27 @@ written_more {now = now} {rest = rest} {n = n} vs w =
     }
 
 -- from its end on nothing is written
-pub sets_out : (l : List ℕ) (i : ℕ) (vs : List ℕ) → length l ≤ i → l ≡ sets l i vs
+pub sets_out : {A : Type 0} (l : List A) (i : ℕ) (vs : List A) → length l ≤ i → l ≡ sets l i vs
 sets_out l i [] h = refl
 sets_out l i (v ∷ vs) h = rw (set_out l i v h) (sets_out l (suc i) vs (omega arith))
 
--- from an index on, a value at a time: with i values written, the rest is still to come
-pub record Filling (before : List ℕ) (at : ℕ) (values now : List ℕ) (i : ℕ) : Type 0 where
-  pub within : i ≤ length values
-  pub same : sets before at values ≡ sets now (at + i) (drop i values)
-  pub size : length now ≡ length before
+-- all the values fit behind an index
+pub sets_whole : {A : Type 0} (l : List A) (i : ℕ) (vs : List A) → i + length vs ≤ length l → put_mid i (i + length vs - i) l vs ≡ sets l i vs
+sets_whole l i vs h =
+    let count : i + length vs - i ≡ length vs = omega arith in
+    rw (count, drop-drop (length vs) i l) (sym (sets-eq vs l i h ∙ append_assoc (take i l) vs (drop (i + length vs) l)))
 
-pub filling_none : (before : List ℕ) (at : ℕ) (values : List ℕ) → Filling before at values before 0
-filling_none before at values = record { within = omega arith; same = rw add-zero; size = refl }
+-- or as many as there is room for: what is behind them changes nothing
+pub sets_cut : {A : Type 0} (l : List A) (i : ℕ) (vs : List A) → i < length l → length l - i < length vs →
+    put_mid i (length l - i) l (take (length l - i) vs) ≡ sets l i vs
+sets_cut l i vs h m =
+    let n = length l - i in
+    let size : length (take n vs) ≡ n = length-take-le n vs (omega arith) in
+    let now = sets l i (take n vs) in
+    let count : i + length (take n vs) - i ≡ n = omega (arith, size) in
+    let whole : put_mid i n l (take n vs) ≡ now = subst (λ k. put_mid i k l (take n vs) ≡ now) count (sets_whole l i (take n vs) (omega (arith, size))) in
+    let beyond : now ≡ sets now (i + length (take n vs)) (drop n vs) =
+    sets_out now (i + length (take n vs)) (drop n vs) (omega (arith, size, length-sets l i (take n vs))) in
+    whole ∙ beyond ∙ sym (sets_append l i (take n vs) (drop n vs)) ∙ ap (sets l i) (take-append-drop n vs)
 
-module _ (before : List ℕ) (at : ℕ) (values now : List ℕ) (i : ℕ) (f : Filling before at values now i) where
-  pub filling_more : (d : ℕ) → i < length values → (next : List ℕ) → next ≡ set now (at + i) (get_or values i d) → Filling before at values next (i + 1)
-  filling_more d h next e = record {
-    within = omega arith;
-    same = f.same ∙ rw (drop-cons values i d h, e, ← add-one i, ← add_assoc at i 1, add-one (at + i));
-    size = rw e (length-set now (at + i) (get_or values i d) ∙ f.size);
-  }
-
-  pub filled : length values ≤ i → now ≡ sets before at values
-  filled h = rw (f.same, drop_of_length-le values {i = i} h)
+pub ruleset fills = (sets_out, sets_whole, sets_cut)

@@ -1,12 +1,13 @@
 -- Two lists of four, the channels of a header and of a record, gone through together, and four counts.
 use Prim.Native.Nat.{ℕ, zero, suc, ◌+◌, ◌≤◌, ◌<◌}
-use mathlib.Core.Bool.{Bool, true, false}
+use mathlib.Core.Bool.{Bool, true, false, ◌&&◌}
 use mathlib.Core.List.{List, [], ◌∷◌}
-use mathlib.Core.Path.{◌≡◌, sym, ap, ◌∙◌}
+use mathlib.Core.Path.{◌≡◌, refl, sym, ap, ◌∙◌}
 use native.Mathlib.Omega.{arith}
 use native.Mathlib.Numerals.{add-one}
 use lib.ListN.{length, get_or, set, drop, drop_of_length-le}
 use lib.Seq.{sets, drop-cons, drop-drop, drop-set-lt}
+use Rattle.std.specs.List.{list_all, zip}
 use Rattle.engine_base.specs.Pick.{pick}
 use Rattle.engine_base.specs.Channels.{four, AtMost}
 
@@ -25,6 +26,20 @@ module _ {A : Type 0} (given now : List A) (i : ℕ) (rest : drop i now ≡ drop
 
   pub rest_set : (a : A) → drop (i + 1) (set now i a) ≡ drop (i + 1) given
   rest_set a = drop-set-lt (i + 1) now i a (omega arith) ∙ rest_next
+
+-- a test of two lists, pair by pair as far as both go, against all the pairs at once
+pub all_zipped : {A B : Type 0} (fits : A → B → Bool) (all : List A → List B → Bool) →
+    ((cs : List B) → all [] cs ≡ true) → ((v : A) (vs : List A) → all (v ∷ vs) [] ≡ true) →
+    ((v : A) (vs : List A) (c : B) (cs : List B) → all (v ∷ vs) (c ∷ cs) ≡ pick (fits v c) (all vs cs) false) →
+    (vs : List A) (cs : List B) → list_all (λ (p : A × B). fits p.0 p.1) (zip vs cs) ≡ all vs cs
+all_zipped fits all none some each [] cs = sym (none cs)
+all_zipped fits all none some each (v ∷ vs) [] = sym (some v vs)
+all_zipped fits all none some each (v ∷ vs) (c ∷ cs) =
+    both_pick (fits v c) _ _ (all_zipped fits all none some each vs cs) ∙ sym (each v vs c cs)
+  where
+    both_pick : (a b c : Bool) → b ≡ c → (a && b) ≡ pick a c false
+    both_pick true b c e = e
+    both_pick false b c e = refl
 
 -- a test of both, pair by pair, from the i-th place on
 pub record Fitting {A B : Type 0} (all : List A → List B → Bool) (vs : List A) (cs : List B) (i : ℕ) : Type 0 where

@@ -2,9 +2,10 @@
 use Prim.Native.Nat.{ℕ, ◌≤◌, ◌<◌}
 use mathlib.Core.Bool.{Bool, true, false, not}
 use mathlib.Core.Path.{◌≡◌, refl, sym, ap, subst, ◌∙◌}
-use native.Mathlib.Omega.{arith}
 use borrow.Author.Tests.{eq-eqb, ne_eqb, le-leb, lt-leb, lt-ltb, le-ltb, not-true, not-false}
 use lib.Dec.{T, eqb, leb, ltb}
+use Rattle.std.specs.Prelude.{Result, Ok, Err}
+use Rattle.engine_base.specs.declared.refusal.Refusal.{Refusal}
 use Rattle.engine_base.specs.Pick.{pick}
 use Rattle.engine_base.specs.Told.{Told, Answers}
 
@@ -63,18 +64,29 @@ pub by-test {κ} : {A : Type 0} (P : A → Type κ) {x y : A} (b : Bool) → (b 
 by-test P true f g = f refl
 by-test P false f g = g refl
 
--- both of two tests hold, a test that refuses by a number has passed, or one that refuses where it holds has not
+-- a refusal
+abbrev is_refused : {A : Type 0} → Result A Refusal → Type 0
+is_refused (Ok given) = ⊥
+is_refused (Err refusal) = Unit {0}
+
+-- both of two tests hold
 pub both : (a b : Bool) → pick a b false ≡ true → (a ≡ true) × (b ≡ true)
 both true b e = (refl, e)
 both false b e = absurd (subst T (sym e) tt)
 
-pub passed : (test : Bool) (number rest : ℕ) → 0 < number → pick test rest number ≡ 0 → (test ≡ true) × (rest ≡ 0)
-passed true number rest h e = (refl, e)
-passed false number rest h e = absurd (omega arith)
+-- what is not refused has passed the test, or is none that a test refuses where it holds
+pub refused_given : {A : Type 0} (refusal : Refusal) (given : A) → Err refusal ≡ Ok given → ⊥
+refused_given refusal given e = subst is_refused e tt
 
-pub unpassed : (test : Bool) (number : ℕ) → 0 < number → pick test number 0 ≡ 0 → test ≡ false
-unpassed true number h e = absurd (omega arith)
-unpassed false number h e = refl
+pub passed : {A : Type 0} {given : A} (test : Bool) (refusal : Refusal) (rest : Result A Refusal) → pick test rest (Err refusal) ≡ Ok given →
+    (test ≡ true) × (rest ≡ Ok given)
+passed true refusal rest e = (refl, e)
+passed false refusal rest e = absurd (refused_given refusal _ e)
+
+pub unpassed : {A : Type 0} {given : A} (test : Bool) (refusal : Refusal) (rest : Result A Refusal) → pick test (Err refusal) rest ≡ Ok given →
+    test ≡ false
+unpassed true refusal rest e = absurd (refused_given refusal _ e)
+unpassed false refusal rest e = refl
 
 pub false_true : false ≡ true → ⊥
 false_true e = subst T (sym e) tt

@@ -1,107 +1,66 @@
 -- Document 01, 'Numbers of refusal'.
 use Rattle.std.specs.Prelude.{ℕ, ◌+◌, ◌≤◌, ◌≡◌}
+use Rattle.engine_base.specs.declared.refusal.Refusal.{Refusal}
+use Rattle.engine_base.specs.declared.refusal.Refusal.TheVariants.{WrongSize, TableOutside, NoTrack, HeaderOutside, WindowTooHigh, EnvelopeTooHigh, NoEnvelopeEnd, ChannelOutside, NoChannel, InvalidCommand, InvalidNote, PastLengths, ZeroLength, NoLength, PastData, InvalidRecord, InvalidWord, NoRoom, OddTranspose, BadPlaylist, TooManyCommands, NoNote, WrongDataSize}
 
+-- the number of each
+abbrev pub number_of : Refusal → ℕ
 -- bank is not 16,384 bytes
-abbrev pub wrong_size : ℕ
-wrong_size = 1
-
+number_of WrongSize = 1
 -- track count outside 1 to 255, or a table not wholly within the bank
-abbrev pub table_outside : ℕ
-table_outside = 2
-
+number_of TableOutside = 2
 -- track number not below the count
-abbrev pub no_track : ℕ
-no_track = 3
-
+number_of NoTrack = 3
 -- header not wholly in the bank
-abbrev pub header_outside : ℕ
-header_outside = 4
-
+number_of HeaderOutside = 4
 -- top three bits of +0 not all 0
-abbrev pub window_too_high : ℕ
-window_too_high = 5
-
+number_of WindowTooHigh = 5
 -- envelope number above 5
-abbrev pub envelope_too_high : ℕ
-envelope_too_high = 6
-
+number_of EnvelopeTooHigh = 6
 -- a used square's envelope is outside the bank or shows no F0 or FF
-abbrev pub no_envelope_end : ℕ
-no_envelope_end = 7
-
+number_of NoEnvelopeEnd = 7
 -- a channel address not 0 and outside the bank
-abbrev pub channel_outside : ℕ
-channel_outside = 8
-
+number_of ChannelOutside = 8
 -- all four addresses 0
-abbrev pub no_channel : ℕ
-no_channel = 9
-
+number_of NoChannel = 9
 -- byte $80 to $AF where a command stands
-abbrev pub invalid_command : ℕ
-invalid_command = 10
-
+number_of InvalidCommand = 10
 -- no such key or preset
-abbrev pub invalid_note : ℕ
-invalid_note = 11
-
+number_of InvalidNote = 11
 -- t + L above 39
-abbrev pub past_lengths : ℕ
-past_lengths = 12
-
+number_of PastLengths = 12
 -- the length read is 0
-abbrev pub zero_length : ℕ
-zero_length = 13
-
+number_of ZeroLength = 13
 -- a note or rest before any BL
-abbrev pub no_length : ℕ
-no_length = 14
-
+number_of NoLength = 14
 -- a byte is needed past the channel's data
-abbrev pub past_data : ℕ
-past_data = 15
-
+number_of PastData = 15
 -- a player record that no frame can go on from
-abbrev pub invalid_record : ℕ
-invalid_record = 16
-
+number_of InvalidRecord = 16
 -- a word that is no command
-abbrev pub invalid_word : ℕ
-invalid_word = 17
-
-abbrev pub no_room : ℕ
-no_room = 18
-
+number_of InvalidWord = 17
+number_of NoRoom = 18
 -- document 02, No. 3: a transpose of odd amount
-abbrev pub odd_transpose : ℕ
-odd_transpose = 19
-
+number_of OddTranspose = 19
 -- document 02, No. 3: an address outside the banks, a goto that a goto leads to, or a 257th block word in a row
-abbrev pub bad_playlist : ℕ
-bad_playlist = 20
-
+number_of BadPlaylist = 20
 -- document 02, No. 3: a channel's 100,001st command in a frame
-abbrev pub too_many_commands : ℕ
-too_many_commands = 21
-
+number_of TooManyCommands = 21
 -- document 02, No. 3: a block without note or rest
-abbrev pub no_note : ℕ
-no_note = 22
-
+number_of NoNote = 22
 -- document 02, No. 5: data to be mended are empty, or more than the limit
-abbrev pub wrong_data_size : ℕ
-wrong_data_size = 23
+number_of WrongDataSize = 23
 
 -- Below: only private contracts and laws use these.
 
 -- 1 to 9: a bank, its places, a track number or a header is refused
-abbrev pub Unopened : ℕ → Type 0
-Unopened number = (wrong_size ≤ number) × (number ≤ no_channel)
+abbrev pub Unopened : Refusal → Type 0
+Unopened refusal = (1 ≤ number_of refusal) × (number_of refusal ≤ 9)
 
 -- 10 to 15: a channel's data are refused, at an offset within a limit
-abbrev pub FaultWithin : ℕ → ℕ → ℕ → Type 0
-FaultWithin limit number at = (invalid_command ≤ number) × (number ≤ past_data) × (at ≤ limit)
+abbrev pub FaultWithin : ℕ → Refusal → ℕ → Type 0
+FaultWithin limit refusal at = (10 ≤ number_of refusal) × (number_of refusal ≤ 15) × (at ≤ limit)
 
 -- and they name the address: that of the data's start plus the offset
-abbrev pub FaultAt : ℕ → ℕ → ℕ → ℕ → ℕ → Type 0
-FaultAt start limit number at address = FaultWithin limit number at × (address ≡ start + at)
+abbrev pub FaultAt : ℕ → ℕ → Refusal → ℕ → ℕ → Type 0
+FaultAt start limit refusal at address = FaultWithin limit refusal at × (address ≡ start + at)

@@ -11,43 +11,23 @@ pub const BANK_END: usize = 0xc000;
 pub fn offset_of(address: usize) -> usize
     ensures { result ≡ offset_of address }
 {
-    if BANK_START <= address {
-        return address - BANK_START;
-    }
-    0
+    address.saturating_sub(BANK_START)
 }
 
 // Whether n bytes from an address stand wholly there.
 pub fn fits(address: usize, n: usize) -> bool
     ensures { result ≡ within address n }
 {
-    if address < BANK_START {
-        return false;
-    }
-    if BANK_END < address {
-        return false;
-    }
-    if BANK_END - address < n {
-        return false;
-    }
-    true
+    BANK_START <= address && address <= BANK_END && n <= BANK_END - address
 }
 
 // Whether each of a row of places stands wholly there, the first by the first size and so on.
+// Two rows side by side, as the definition takes them: addresses and sizes are two lists there.
 pub fn all_fit(addresses: &[usize], sizes: &[usize]) -> bool
     ensures { result ≡ all_within addresses.now sizes.now }
 {
-    let mut i: usize = 0;
-    while i < addresses.len() {
-        if sizes.len() <= i {
-            return true;
-        }
-        let address = addresses[i];
-        let size = sizes[i];
-        if !fits(address, size) {
-            return false;
-        }
-        i += 1;
-    }
-    true
+    addresses
+        .iter()
+        .zip(sizes)
+        .all(|(address, size)| fits(*address, *size))
 }

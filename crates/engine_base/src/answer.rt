@@ -1,29 +1,38 @@
 // What a frame answers.
 ghost use Rattle.std.specs.Prelude.{◌≡◌};
-ghost use Rattle.engine_base.specs.Pick.{pick};
 ghost use Rattle.engine_base.specs.Answer.{answer_number, answer_kind};
 
+use crate::refusal::Refusal;
+
+// No Result of the other cases: the definitions and laws go by all of them side by side.
 #[derive(Clone, Copy)]
 pub enum Answer {
     Events,
     End,
     Stopped,
-    // a number that has no place in a channel
-    Refused(u32),
-    // a number, the channel, the offset of the byte and its address
-    Fault(u32, usize, u16, u32),
+    // what has no place in a channel
+    Refused(Refusal),
+    // the channel, the offset of the byte and its address
+    Fault(Refusal, usize, u16, u32),
 }
 
-// The refusal of an answer, or 0.
+// What a used channel does in a frame.
+// No Result of the other cases: the definitions and laws go by all of them side by side.
+#[derive(Clone, Copy)]
+pub enum Turned {
+    Plays,
+    End,
+    // the offset of the byte, and its address
+    Refused(Refusal, u16, u32),
+}
+
+// The number of an answer's refusal, or 0.
 pub fn number_of(answer: Answer) -> u32
     ensures { result ≡ answer_number answer }
 {
     match answer {
-        Answer::Events => 0,
-        Answer::End => 0,
-        Answer::Stopped => 0,
-        Answer::Refused(number) => number,
-        Answer::Fault(number, _, _, _) => number,
+        Answer::Refused(refusal) | Answer::Fault(refusal, ..) => refusal.number(),
+        _ => 0,
     }
 }
 
@@ -35,13 +44,6 @@ pub fn kind_of(answer: Answer) -> u32
         Answer::Events => 0,
         Answer::End => 1,
         Answer::Stopped => 2,
-        Answer::Refused(_) => 3,
-        Answer::Fault(_, _, _, _) => 3,
+        Answer::Refused(_) | Answer::Fault(..) => 3,
     }
-}
-
-pub fn flag(b: bool) -> u32
-    ensures { result ≡ pick b 1 0 }
-{
-    if b { 1 } else { 0 }
 }

@@ -2,23 +2,8 @@
 ghost use Rattle.std.specs.Prelude.{◌≡◌, set};
 ghost use Rattle.std.proofs.lemmas.List.Edits.{sets};
 
-fn put8(out: &mut [u8], at: usize, b: u8)
-    ensures { out.new ≡ set out.old at b }
-{
-    if at < out.len() {
-        out[at] = b;
-    }
-}
-
-pub fn put16(out: &mut [u16], at: usize, word: u16)
-    ensures { out.new ≡ set out.old at word }
-{
-    if at < out.len() {
-        out[at] = word;
-    }
-}
-
-fn put32(out: &mut [u32], at: usize, value: u32)
+// A value at an index.
+pub fn put<T: Copy>(out: &mut [T], at: usize, value: T)
     ensures { out.new ≡ set out.old at value }
 {
     if at < out.len() {
@@ -26,32 +11,18 @@ fn put32(out: &mut [u32], at: usize, value: u32)
     }
 }
 
-// Bytes from an index on.
-pub fn fill8(out: &mut [u8], at: usize, bytes: &[u8])
-    ensures { out.new ≡ sets out.old at bytes.now }
-{
-    if out.len() <= at {
-        return;
-    }
-    let mut i: usize = 0;
-    while i < bytes.len() {
-        let b = bytes[i];
-        put8(out, at + i, b);
-        i += 1;
-    }
-}
-
-// Numbers from an index on.
-pub fn fill32(out: &mut [u32], at: usize, values: &[u32])
+// Values from an index on.
+#[tactic(auto, using(crate::proofs::Buffers::fills))]
+pub fn fill<T: Copy>(out: &mut [T], at: usize, values: &[T])
     ensures { out.new ≡ sets out.old at values.now }
 {
     if out.len() <= at {
         return;
     }
-    let mut i: usize = 0;
-    while i < values.len() {
-        let value = values[i];
-        put32(out, at + i, value);
-        i += 1;
+    let room = out.len() - at;
+    if values.len() <= room {
+        out[at..at + values.len()].copy_from_slice(values);
+    } else {
+        out[at..].copy_from_slice(&values[..room]);
     }
 }

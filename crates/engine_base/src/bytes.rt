@@ -6,10 +6,7 @@ ghost use Rattle.engine_base.specs.Bytes.{word_at};
 pub fn byte(bytes: &[u8], at: usize) -> u8
     ensures { result ≡ get_or bytes.now at 0 }
 {
-    if bytes.len() <= at {
-        return 0;
-    }
-    bytes[at]
+    bytes.get(at).copied().unwrap_or(0)
 }
 
 // The little-endian word at an offset, its bytes 0 where there are none.
@@ -19,19 +16,13 @@ pub fn word(bytes: &[u8], at: usize) -> u16
     if bytes.len() <= at {
         return 0;
     }
-    byte(bytes, at) as u16 + 256 * (byte(bytes, at + 1) as u16)
+    u16::from_le_bytes([byte(bytes, at), byte(bytes, at + 1)])
 }
 
 // n bytes from an offset, or to the end, whichever is sooner.
 pub fn part(bytes: &[u8], at: usize, n: usize) -> &[u8]
     ensures { result.now ≡ take n (drop at bytes.now) }
 {
-    if bytes.len() <= at {
-        return &bytes[..0];
-    }
-    if bytes.len() - at <= n {
-        return &bytes[at..];
-    }
-    let end = at + n;
-    &bytes[at..end]
+    let rest = bytes.get(at..).unwrap_or(&[]);
+    rest.get(..n).unwrap_or(rest)
 }

@@ -9,16 +9,5 @@ pub const REACH: usize = 64;
 pub fn shows_end(bytes: &[u8]) -> bool
     ensures { result ≡ shows_end bytes.now }
 {
-    let mut i = 0;
-    while i < bytes.len() {
-        let b = bytes[i];
-        if b == 0xf0 {
-            return true;
-        }
-        if b == 0xff {
-            return true;
-        }
-        i += 1;
-    }
-    false
+    bytes.iter().any(|b| matches!(*b, 0xf0 | 0xff))
 }

@@ -1,26 +1,10 @@
 // The fields of a byte: what masks keep of it. A high field is the byte shifted down.
-ghost use Rattle.std.specs.Prelude.{◌≡◌, ◌%◌};
+ghost use Rattle.std.specs.Prelude.{◌≡◌, ◌%◌, ◌^◌, ◌≤◌};
 
-pub fn low4(b: u8) -> u8
-    ensures { result ≡ b % 16 }
+// The lowest bits of a byte, so many of them.
+pub fn low<const BITS: u32>(b: u8) -> u8
+    requires { BITS ≤ 7 }
+    ensures { result ≡ b % 2 ^ BITS }
 {
-    b & 0x0f
-}
-
-pub fn low5(b: u8) -> u8
-    ensures { result ≡ b % 32 }
-{
-    b & 0x1f
-}
-
-pub fn low6(b: u8) -> u8
-    ensures { result ≡ b % 64 }
-{
-    b & 0x3f
-}
-
-pub fn low7(b: u8) -> u8
-    ensures { result ≡ b % 128 }
-{
-    b & 0x7f
+    b & ((1 << BITS) - 1)
 }

@@ -7,6 +7,7 @@ use crate::time::{Frames, QuarterFrames};
 // Never, where a release is told as a number.
 const NEVER: u32 = 255;
 
+// Not an Option: never is a rule of the format and no absence, and is told as a number.
 #[derive(Clone, Copy)]
 pub enum Release {
     After(QuarterFrames),
@@ -17,15 +18,8 @@ pub enum Release {
 pub fn dynamic_of(length: Frames) -> QuarterFrames
     ensures { result ≡ dynamic length }
 {
-    let frames = length.count;
-    if frames == 0 {
-        return QuarterFrames { count: 0 };
-    }
-    if 15 < frames - 1 {
-        return QuarterFrames { count: 60 };
-    }
     QuarterFrames {
-        count: 4 * (frames - 1),
+        count: 4 * length.count.saturating_sub(1).min(15),
     }
 }
 
@@ -34,7 +28,7 @@ pub fn quarter_frames(release: Release) -> u32
     ensures { result ≡ told_release release }
 {
     match release {
-        Release::After(after) => after.count as u32,
+        Release::After(after) => u32::from(after.count),
         Release::Never => NEVER,
     }
 }

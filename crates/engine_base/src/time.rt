@@ -3,13 +3,13 @@ ghost use Rattle.std.specs.Prelude.{◌≡◌, ◌-◌};
 
 // Note lengths count frames.
 #[repr(C)]
-#[derive(Clone, Copy)]
+#[derive(Clone, Copy, PartialEq, Eq)]
 pub struct Frames {
     pub count: u8,
 }
 
 // The triangle's release counts quarter-frames.
-#[derive(Clone, Copy)]
+#[derive(Clone, Copy, PartialEq, Eq)]
 pub struct QuarterFrames {
     pub count: u8,
 }
@@ -18,10 +18,7 @@ pub struct QuarterFrames {
 pub fn index_of(length: Frames, left: Frames) -> Frames
     ensures { result.count ≡ length.count - left.count }
 {
-    if length.count < left.count {
-        return Frames { count: 0 };
-    }
     Frames {
-        count: length.count - left.count,
+        count: length.count.saturating_sub(left.count),
     }
 }

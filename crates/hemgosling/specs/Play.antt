@@ -1,19 +1,15 @@
 -- What start and frame owe a host that lends its one record.
 use Rattle.std.specs.Prelude.{ℕ, List, ◌≡◌}
 use Rattle.metroid_format.specs.declared.bank.Places.{Places}
-use Rattle.engine_base.specs.Answer.{answer_number}
-use Rattle.metroid_player.specs.Frame.{start_of, frame_of, told_framed}
+use Rattle.metroid_player.specs.Frame.{start_of, frame_of, told_started, told_framed}
 use Rattle.metroid_player.specs.declared.record.Player.{Player}
-use Rattle.metroid_player.specs.declared.frame.Framed.{Framed}
-use Rattle.metroid_player.specs.declared.frame.Started.{Started}
 use Rattle.metroid_check.specs.Countdown.{Countdown}
 use Rattle.metroid_check.specs.Verdict.{verdict_of}
 use Rattle.hemgosling.specs.Tell.{Tells}
-use Rattle.hemgosling.specs.declared.play.Stepped.{Stepped}
 
 -- its number, the record, and the frames left that a run from it shows, of any length
 pub record Starts (bank : List ℕ) (places : Places) (track number : ℕ) (after : Player) : Type 0 where
-  pub says : number ≡ (start_of bank places track).number
+  pub says : number ≡ (told_started (start_of bank places track)).number
   pub fresh : after ≡ (start_of bank places track).player
   pub countdown : (n : ℕ) → Countdown bank places track n (verdict_of bank places track)
 
@@ -21,14 +17,3 @@ pub record Starts (bank : List ℕ) (places : Places) (track number : ℕ) (afte
 pub record Steps (bank : List ℕ) (places : Places) (track : ℕ) (player : Player) (buffer : List ℕ) (number : ℕ) (player' : Player) (buffer' : List ℕ) : Type 0 where
   pub told : Tells (told_framed (frame_of bank places track player)) buffer number buffer'
   pub stepped : player' ≡ (frame_of bank places track player).player
-
--- Below: only private contracts and laws use these.
-
--- the same of start by value
-pub record Starting (bank : List ℕ) (places : Places) (track : ℕ) (started : Started) : Type 0 where
-  pub finds : started ≡ start_of bank places track
-  pub countdown : (n : ℕ) → Countdown bank places track n (verdict_of bank places track)
-
--- what a frame leaves of its answer beside the buffer
-abbrev pub stepped_of : Framed → Stepped
-stepped_of f = record { number = answer_number f.answer; player = f.player }

@@ -21,5 +21,5 @@ abbrev pub Placed : Answer → Type 0
 Placed Answer.Events = Unit {0}
 Placed Answer.End = Unit {0}
 Placed Answer.Stopped = Unit {0}
-Placed (Answer.Refused number) = Unit {0}
-Placed (Answer.Fault number i at address) = i < 4
+Placed (Answer.Refused refusal) = Unit {0}
+Placed (Answer.Fault refusal i at address) = i < 4

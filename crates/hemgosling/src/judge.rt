@@ -6,24 +6,20 @@ ghost use Rattle.hemgosling.specs.Tell.{Tells};
 ghost use Rattle.hemgosling.specs.Judge.{Judges};
 
 use crate::places;
-use engine_base::buffer;
+use crate::tell::tell;
 use metroid_check::verdict;
 use metroid_check::verdict::Verdict;
 
-// The number, and the values into the buffer as far as they fit.
-fn tell(verdict: Verdict, out: &mut [u32]) -> u32
+fn tell_verdict(verdict: Verdict, out: &mut [u32]) -> u32
     requires { (start : ℕ → ℕ) × VerdictWithin start verdict }
     ensures { Tells (told_verdict verdict) out.old result out.new }
 {
     match verdict {
-        Verdict::Pass(frame, channel) => {
-            buffer::fill32(out, 0, &[frame, channel as u32]);
-            0
-        }
-        Verdict::Refused(number) => number,
-        Verdict::Fault(number, channel, at, frame, address) => {
-            buffer::fill32(out, 0, &[channel as u32, at as u32, frame, address]);
-            number
+        Verdict::Pass(frame, channel) => tell(0, &[frame, channel as u32], out),
+        Verdict::Refused(refusal) => refusal.number(),
+        Verdict::Fault(refusal, channel, at, frame, address) => {
+            let values = [channel as u32, u32::from(at), frame, address];
+            tell(refusal.number(), &values, out)
         }
     }
 }
@@ -47,7 +43,7 @@ pub extern "C" fn hem_check(
         (places_of header_offsets header_block note_lengths key_periods noise_presets envelope_addresses track_count default1 default2)
         track verdict.old result verdict.new }
 {
-    let found = places::places_of(
+    let places = places::places_of(
         header_offsets,
         header_block,
         note_lengths,
@@ -58,5 +54,5 @@ pub extern "C" fn hem_check(
         default1,
         default2,
     );
-    tell(verdict::check(bank, found, track), verdict)
+    tell_verdict(verdict::check(bank, places, track), verdict)
 }

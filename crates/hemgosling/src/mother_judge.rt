@@ -5,28 +5,27 @@ ghost use Rattle.hemgosling.specs.Tell.{Tells};
 ghost use Rattle.hemgosling.specs.MotherJudge.{MotherJudges};
 
 use crate::mother_places;
-use engine_base::buffer;
+use crate::tell::tell;
 use mother_check::verdict;
 use mother_check::verdict::Verdict;
+use mother_format::bank::Banks;
 
-// The number, and of a fault the values into the buffer as far as they fit.
-fn tell(verdict: Verdict, out: &mut [u32]) -> u32
+// Like the old engine's, over types and definitions of its own: a trait for both would be longer than the two.
+fn tell_verdict(verdict: Verdict, out: &mut [u32]) -> u32
     ensures { Tells (told_verdict verdict) out.old result out.new }
 {
     match verdict {
         Verdict::Pass => 0,
-        Verdict::Refused(number) => number,
+        Verdict::Refused(refusal) => refusal.number(),
         Verdict::Fault(fault) => {
-            buffer::fill32(
-                out,
-                0,
-                &[fault.channel, fault.at as u32, fault.place, fault.address],
-            );
-            fault.number
+            let offset = u32::from(fault.at);
+            let values = [fault.channel, offset, fault.place, fault.address];
+            tell(fault.refusal.number(), &values, out)
         }
     }
 }
 
+#[tactic(auto, using(mother_check::proofs::verdict::Place::verdict_within, mother_check::proofs::verdict::Place::passes))]
 #[unsafe(no_mangle)]
 pub extern "C" fn hem_mother_check<'a>(
     bank8: &'a [u8],
@@ -45,7 +44,7 @@ pub extern "C" fn hem_mother_check<'a>(
         (mother_places_of header_offsets header_block note_lengths key_periods noise_presets envelope_addresses track_count)
         track verdict.old result verdict.new }
 {
-    let found = mother_places::places_of(
+    let places = mother_places::places_of(
         header_offsets,
         header_block,
         note_lengths,
@@ -54,5 +53,6 @@ pub extern "C" fn hem_mother_check<'a>(
         envelope_addresses,
         track_count,
     );
-    tell(verdict::check(bank8, banka, found, track), verdict)
+    let banks = Banks { bank8, banka };
+    tell_verdict(verdict::check(banks, places, track), verdict)
 }

@@ -4,6 +4,7 @@ ghost use Rattle.hemgosling.specs.MotherPlaces.{mother_places_of};
 
 use mother_format::bank::Places;
 
+// Like the old engine's: the C calls hand the places over one by one.
 pub(crate) fn places_of(
     header_offsets: u32,
     header_block: u32,

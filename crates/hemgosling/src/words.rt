@@ -1,23 +1,25 @@
 // Commands as words, for a host that edits tracks.
 ghost use Rattle.std.specs.Prelude.{◌≡◌};
 ghost use Rattle.metroid_format.specs.Command.{data_limit};
-ghost use Rattle.metroid_format.specs.Words.{told_reading, ReadWithin, told_writing, WroteWithin};
+ghost use Rattle.metroid_format.specs.Words.{told_reading, ReadWithin};
 ghost use Rattle.hemgosling.specs.Tell.{Tells};
 ghost use Rattle.hemgosling.specs.Words.{kind_of, ReadsInto, WritesInto};
 
-use engine_base::{buffer, refusal};
+use crate::tell::{tell, tell_count};
+use engine_base::refusal::Refusal;
 use metroid_format::command::Kind;
 use metroid_format::words;
-use metroid_format::words::{Reading, Writing};
+use metroid_format::words::{ReadError, Reading};
 
 // 0 is melodic, any other number noise.
 pub(crate) fn kind_of(noise: u32) -> Kind
     ensures { result ≡ kind_of noise }
 {
     if noise == 0 {
-        return Kind::Melodic;
+        Kind::Melodic
+    } else {
+        Kind::Noise
     }
-    Kind::Noise
 }
 
 fn tell_reading(reading: Reading, out: &mut [u32]) -> u32
@@ -25,32 +27,13 @@ fn tell_reading(reading: Reading, out: &mut [u32]) -> u32
     ensures { Tells (told_reading reading) out.old result out.new }
 {
     match reading {
-        Reading::Wrote(count) => {
-            buffer::fill32(out, 0, &[count as u32]);
-            0
-        }
-        Reading::Refused(number, at) => {
-            buffer::fill32(out, 0, &[at as u32]);
-            number
-        }
-        Reading::NoRoom => refusal::NO_ROOM,
+        Ok(count) => tell(0, &[count as u32], out),
+        Err(ReadError::Byte(refusal, at)) => tell(refusal.number(), &[at as u32], out),
+        Err(ReadError::NoRoom) => Refusal::NoRoom.number(),
     }
 }
 
-fn tell_writing(writing: Writing, out: &mut [u32]) -> u32
-    requires { WroteWithin data_limit writing }
-    ensures { Tells (told_writing writing) out.old result out.new }
-{
-    match writing {
-        Writing::Wrote(count) => {
-            buffer::fill32(out, 0, &[count as u32]);
-            0
-        }
-        Writing::InvalidWord => refusal::INVALID_WORD,
-        Writing::NoRoom => refusal::NO_ROOM,
-    }
-}
-
+#[tactic(auto, using(metroid_format::proofs::words::Within::read_within))]
 #[unsafe(no_mangle)]
 pub extern "C" fn hem_read_words(
     noise: u32,
@@ -63,6 +46,7 @@ pub extern "C" fn hem_read_words(
     tell_reading(words::read_words(kind_of(noise), bytes, list), told)
 }
 
+#[tactic(auto, using(crate::proofs::tell::Within::few_written))]
 #[unsafe(no_mangle)]
 pub extern "C" fn hem_write_words(
     noise: u32,
@@ -72,5 +56,5 @@ pub extern "C" fn hem_write_words(
 ) -> u32
     ensures { WritesInto (kind_of noise) list.now bytes.old told.old result bytes.new told.new }
 {
-    tell_writing(words::write_words(kind_of(noise), list, bytes), told)
+    tell_count(words::write_words(kind_of(noise), list, bytes), told)
 }

@@ -3,21 +3,29 @@
 use Prim.Native.Nat.{ℕ, zero, suc}
 use mathlib.Core.List.{List, ◌∷◌, map}
 use mathlib.Core.Path.{◌≡◌, refl, ap, ap₂, ◌∙◌}
+use Rattle.std.specs.Prelude.{Result, Ok, Err}
+use Rattle.engine_base.specs.declared.refusal.Refusal.{Refusal}
 use Rattle.metroid_format.specs.Header.{open_track}
 use Rattle.metroid_format.specs.declared.bank.Places.{Places}
+use Rattle.metroid_format.specs.declared.header.Track.{Track}
 use Rattle.metroid_player.specs.Frame.{start_of, frame_of}
 use Rattle.metroid_player.specs.declared.record.Player.{Player}
 use Rattle.metroid_player.specs.declared.frame.Framed.{Framed}
 use Rattle.metroid_player.specs.declared.frame.Started.{Started}
-use Rattle.metroid_player.proofs.frame.Alike.{rested, Alike, stop_alike, start_alike, frame_alike}
+use Rattle.metroid_player.proofs.frame.Alike.{rested, AlikeOpened, stop_alike, start_alike, frame_alike}
 use Rattle.metroid_check.specs.Run.{frames_from, run_of}
-use Rattle.metroid_check.specs.Verdict.{verdict_of}
+use Rattle.metroid_check.specs.Verdict.{verdict_opened, verdict_of}
+
+opened_verdict_alike : (bank bank' : List ℕ) (opened : Result Track Refusal) → AlikeOpened bank bank' opened →
+    verdict_opened bank opened ≡ verdict_opened bank' opened
+opened_verdict_alike bank bank' (Ok track) same = rw (stop_alike bank bank' track same)
+opened_verdict_alike bank bank' (Err refusal) same = refl
 
 module _ (bank bank' : List ℕ) (places : Places) (track : ℕ) (o : open_track bank places track ≡ open_track bank' places track)
-    (same : Alike bank bank' (open_track bank places track).track) where
+    (same : AlikeOpened bank bank' (open_track bank places track)) where
   pub verdict_alike : verdict_of bank places track ≡ verdict_of bank' places track
   unfolding verdict_of
-  verdict_alike = rw (← o, stop_alike bank bank' (open_track bank places track).track same)
+  verdict_alike = rw (← o) (opened_verdict_alike bank bank' (open_track bank places track) same)
 
   frames_alike : (n : ℕ) (player : Player) →
       map rested (frames_from (frame_of bank places track) n player) ≡ map rested (frames_from (frame_of bank' places track) n player)

@@ -8,15 +8,17 @@ use native.Mathlib.Numerals.{add-one}
 use native.Mathlib.Omega.{arith}
 use Rattle.engine_base.specs.Answer.{answer_number, answer_kind}
 use Rattle.engine_base.specs.Bytes.{AllBytes}
-use Rattle.engine_base.specs.Refusal.{past_data, invalid_record}
+use Rattle.std.specs.Prelude.{Ok, Err}
+use Rattle.engine_base.specs.Refusal.{number_of}
+use Rattle.engine_base.specs.declared.refusal.Refusal.{Refusal}
+use Rattle.engine_base.specs.declared.refusal.Refusal.TheVariants.{PastData, InvalidRecord}
 use Rattle.engine_base.specs.declared.answer.Answer.{Answer}
 use Rattle.engine_base.proofs.Picks.{answers, false_true}
 use Rattle.metroid_format.specs.Header.{open_track, header_of, channel_start}
 use Rattle.metroid_format.proofs.header.Opening.{unopened}
 use Rattle.metroid_format.specs.declared.bank.Places.{Places}
 use Rattle.metroid_format.specs.declared.header.Track.{Track}
-use Rattle.metroid_format.specs.declared.timeline.Finish.{Finish}
-use Rattle.metroid_format.specs.declared.timeline.Soonest.{Soonest}
+use Rattle.metroid_format.specs.Timeline.{Finish}
 use Rattle.metroid_player.specs.Record.{fresh_player, most_frames}
 use Rattle.metroid_player.specs.Frame.{unplayed, frame_of, frame_of_track}
 use Rattle.metroid_player.specs.declared.record.Player.{Player}
@@ -34,7 +36,7 @@ use Rattle.metroid_check.specs.Countdown.{
   Countdown,
 }
 use Rattle.metroid_check.specs.Demand3.{Foreseen}
-use Rattle.metroid_check.specs.Verdict.{verdict_by, verdict_of, VerdictWithin}
+use Rattle.metroid_check.specs.Verdict.{verdict_stop, verdict_of, VerdictWithin}
 use Rattle.metroid_check.specs.declared.verdict.Verdict.{Verdict}
 use Rattle.metroid_check.proofs.verdict.Place.{verdict_within}
 use Rattle.metroid_check.proofs.ahead.Starting.{ahead_of, Starts, starts, unopened_frame}
@@ -56,10 +58,10 @@ module _ (k length : ℕ) where
 
 -- before frame k of a run whose passes have that length
 data Clock (restart : Bool) (length k : ℕ) : Finish → Outlook → Type 0 where
-  round : {m : ℕ} → restart ≡ true → k % (length + 1) + m ≡ length → Clock restart length k Finish.End (stopping m)
-  once : {m : ℕ} → restart ≡ false → k + m ≡ length → Clock restart length k Finish.End (stopping m)
-  past : restart ≡ false → length < k → Clock restart length k Finish.End stopped
-  until : {m number at address : ℕ} → m ≡ length - k → Clock restart length k (Finish.Refused number at address) (stopping m)
+  round : {m : ℕ} → restart ≡ true → k % (length + 1) + m ≡ length → Clock restart length k (Ok tt) (stopping m)
+  once : {m : ℕ} → restart ≡ false → k + m ≡ length → Clock restart length k (Ok tt) (stopping m)
+  past : restart ≡ false → length < k → Clock restart length k (Ok tt) stopped
+  until : {m : ℕ} {refusal : Refusal} {at address : ℕ} → m ≡ length - k → Clock restart length k (Err (refusal, at, address)) (stopping m)
 
 abbrev left_of : Outlook → ℕ
 left_of (stopping n) = n
@@ -67,7 +69,7 @@ left_of stopped = 0
 
 module _ (restart : Bool) (length i : ℕ) where
   abbrev verdict : Finish → Verdict
-  verdict finish = verdict_by (Soonest.Stop length i finish)
+  verdict finish = verdict_stop length i finish
 
   clock_left : {k : ℕ} {finish : Finish} {o : Outlook} → Clock restart length k finish o → left_of o ≡ left_foreseen restart (verdict finish) k
   clock_left (round e h) = rw e (omega arith)
@@ -76,8 +78,8 @@ module _ (restart : Bool) (length i : ℕ) where
   clock_left (until h) = h
 
   exactly : (finish : Finish) (j : ℕ) (f : Framed) → ZeroAtEnd f → ZeroForeseen restart (verdict finish) j f
-  exactly (Finish.Refused number at address) j f z = tt
-  exactly Finish.End j f z = by restart
+  exactly (Err (refusal, at, address)) j f z = tt
+  exactly (Ok passed) j f z = by restart
     where
       by : (restart : Bool) → ZeroForeseen restart (Verdict.Pass length i) j f
       by true = z
@@ -88,8 +90,8 @@ no_events f h left = ((λ z e. let events : answer_kind f.answer ≡ 0 = ap answ
 
 -- a fault's number is below 16
 abbrev FaultNumber : Finish → Type 0
-FaultNumber Finish.End = Unit {0}
-FaultNumber (Finish.Refused number at address) = number ≤ past_data
+FaultNumber (Ok passed) = Unit {0}
+FaultNumber (Err (refusal, at, address)) = number_of refusal ≤ number_of PastData
 
 stands_left : {bank : List ℕ} {track : Track} {i length : ℕ} {player : Player} {finish : Finish} {o : Outlook} →
     Stands bank track i length player finish o → player.frames_left ≡ left_of o
@@ -117,7 +119,7 @@ module _ (bank : List ℕ) (track : Track) (s : Starts bank track) (i length : �
     count_on : {finish : Finish} {o after : Outlook} → CountsOn n (k + 1) finish → f.frames_left ≡ left_of o →
         Clock track.restart length k finish o → ZeroWithoutEvents f →
         ZeroForeseen track.restart (verdict track.restart length i finish) k f →
-        (answer_number f.answer ≡ invalid_record → ⊥) → Stands bank track i length f.player finish after →
+        (answer_number f.answer ≡ number_of InvalidRecord → ⊥) → Stands bank track i length f.player finish after →
         Clock track.restart length (k + 1) finish after → Counted finish
     count_on later left c silent z fits after c' = (
       record {
@@ -141,13 +143,13 @@ module _ (bank : List ℕ) (track : Track) (s : Starts bank track) (i length : �
         ((λ z. absurd (omega arith)), (λ e. let end : answer_kind f.answer ≡ 1 = ap answer_kind e in absurd (omega arith))))
         (λ z. omega arith) after c'
 
-    count_ends : {after : Outlook} → CountsOn n (k + 1) Finish.End → f.frames_left ≡ 0 →
-        Clock track.restart length k Finish.End (stopping 0) → f.answer ≡ Answer.End →
-        Stands bank track i length f.player Finish.End after → Clock track.restart length (k + 1) Finish.End after → Counted Finish.End
+    count_ends : {after : Outlook} → CountsOn n (k + 1) (Ok tt) → f.frames_left ≡ 0 →
+        Clock track.restart length k (Ok tt) (stopping 0) → f.answer ≡ Answer.End →
+        Stands bank track i length f.player (Ok tt) after → Clock track.restart length (k + 1) (Ok tt) after → Counted (Ok tt)
     count_ends later left c a after c' =
         let none : answer_number f.answer ≡ 0 = ap answer_number a in
         count_on later left c (no_events f (rw a (omega arith)) left)
-        (exactly track.restart length i Finish.End k f ((λ _. a), (λ _. left))) (λ z. omega arith) after c'
+        (exactly track.restart length i (Ok tt) k f ((λ _. a), (λ _. left))) (λ z. omega arith) after c'
 
     count_step : {finish : Finish} {o : Outlook} → CountsOn n (k + 1) finish → FaultNumber finish → f.frames_left ≡ left_of o →
         Steps bank track i length f finish o → Clock track.restart length k finish o → Counted finish
@@ -176,49 +178,48 @@ module _ (bank : List ℕ) (track : Track) (s : Starts bank track) (i length : �
 
   -- before the first frame
   first_clock : (restart : Bool) → track.restart ≡ restart → (finish : Finish) → Clock track.restart length 0 finish (stopping length)
-  first_clock true e Finish.End = round {m = length} e (rw (zero-mod (length + 1)) (omega arith))
-  first_clock false e Finish.End = once {m = length} e (omega arith)
-  first_clock restart e (Finish.Refused number at address) = until {m = length} (omega arith)
+  first_clock true e (Ok passed) = round {m = length} e (rw (zero-mod (length + 1)) (omega arith))
+  first_clock false e (Ok passed) = once {m = length} e (omega arith)
+  first_clock restart e (Err (refusal, at, address)) = until {m = length} (omega arith)
 
 module _ (bank : List ℕ) (places : Places) (track : ℕ) where
-  -- after a refused start every frame is refused with that number and shows 0
-  shut_counts : ((open_track bank places track).number ≡ 0 → ⊥) → (n k : ℕ) →
-      EachFrom (CountsDown (open_track bank places track).track.restart (Verdict.Refused (open_track bank places track).number)) k
+  -- after a refused start every frame is refused for the same and shows 0
+  shut_counts : {refusal : Refusal} → open_track bank places track ≡ Err refusal → (restart : Bool) (n k : ℕ) →
+      EachFrom (CountsDown restart (Verdict.Refused refusal)) k
       (frames_from (frame_of bank places track) n (fresh_player 0))
   unfolding frames_from
-  shut_counts e zero k = tt
-  shut_counts e (suc n) k =
+  shut_counts e restart zero k = tt
+  shut_counts {refusal} e restart (suc n) k =
       let below = unopened bank places track e in
       rw (unopened_frame bank places track (fresh_player 0) e) (
         record {
           shown = refl;
-          silent = no_events (unplayed (Answer.Refused (open_track bank places track).number) (fresh_player 0)) (omega arith) refl;
+          silent = no_events (unplayed (Answer.Refused refusal) (fresh_player 0)) (omega arith) refl;
           zero = tt;
           numbers = (omega arith, omega arith);
           fits = λ z. omega (arith, below.1);
         },
-        shut_counts e n (k + 1),
+        shut_counts e restart n (k + 1),
       )
 
   by_verdict : {verdict : Verdict} → Comes bank places track verdict → VerdictWithin (channel_start (header_of bank places track)) verdict →
       (n : ℕ) → Countdown bank places track n verdict
-  by_verdict (opened {n = m} {i} {finish} e q small l) w n =
-      let track' = (open_track bank places track).track in
+  by_verdict (opened {track'} {n = m} {i} {finish} e q small l) w n =
       let s = starts bank places track e in
       record {
         started = rw (opened_run bank places track e q n) (small, small);
         frames =
-            rw (opened_run bank places track e q n)
+            rw (opened_run bank places track e q n, e)
             (counts bank track' s i m small (fault_number finish w) l n 0 (fresh_player m) (stopping m) (going (s.run m small) l refl refl)
             (first_clock bank track' s i m small track'.restart refl finish));
       }
     where
-      fault_number : (finish : Finish) → VerdictWithin (channel_start (header_of bank places track)) (verdict_by (Soonest.Stop m i finish)) → FaultNumber finish
-      fault_number Finish.End w = tt
-      fault_number (Finish.Refused number at address) (_, placed, _, _) = placed.0.1
+      fault_number : (finish : Finish) → VerdictWithin (channel_start (header_of bank places track)) (verdict_stop m i finish) → FaultNumber finish
+      fault_number (Ok passed) w = tt
+      fault_number (Err (refusal, at, address)) (_, placed, _, _) = placed.0.1
   by_verdict (shut e) w n = record {
     started = rw (shut_run bank places track e n) (omega arith, omega arith);
-    frames = rw (shut_run bank places track e n) (shut_counts e n 0);
+    frames = rw (shut_run bank places track e n) (shut_counts e _ n 0);
   }
 
   -- in a bank of bytes

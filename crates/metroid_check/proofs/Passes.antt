@@ -5,6 +5,7 @@ use mathlib.Core.Path.{◌≡◌, refl, sym, ap, ◌∙◌}
 use native.Mathlib.Omega.{arith}
 use borrow.Author.Tests.{lt-ltb, le-ltb}
 use lib.Dec.{ltb}
+use Rattle.engine_base.specs.declared.refusal.Refusal.{Refusal}
 use Rattle.engine_base.specs.Bytes.{AllBytes}
 use Rattle.engine_base.proofs.Picks.{by-test}
 use Rattle.metroid_format.specs.declared.bank.Places.{Places}
@@ -41,12 +42,12 @@ module _ (bank : List ℕ) (bytes : AllBytes bank) (places : Places) (track : �
   shows_refusal e n = (demand3 bank places track bytes n).refusal ∙ ap (refusal_foreseen n) e
 
   -- a track that does not pass is refused, whatever the length or in every run that reaches the fault's frame
-  pub start_refused : {number : ℕ} → verdict_of bank places track ≡ Verdict.Refused number → (n : ℕ) →
-      first_refusal (run_of bank places track n) ≡ shown (of_start number)
+  pub start_refused : {refusal : Refusal} → verdict_of bank places track ≡ Verdict.Refused refusal → (n : ℕ) →
+      first_refusal (run_of bank places track n) ≡ shown (of_start refusal)
   start_refused e n = shows_refusal e n
 
-  pub fault_reached : {number channel at frame address : ℕ} → verdict_of bank places track ≡ Verdict.Fault number channel at frame address →
-      (n : ℕ) → frame < n → first_refusal (run_of bank places track n) ≡ shown (of_data number channel at frame address)
+  pub fault_reached : {refusal : Refusal} {channel at frame address : ℕ} → verdict_of bank places track ≡ Verdict.Fault refusal channel at frame address →
+      (n : ℕ) → frame < n → first_refusal (run_of bank places track n) ≡ shown (of_data refusal channel at frame address)
   fault_reached {frame} e n h = shows_refusal e n ∙ reached n frame _ h
 
   -- a track that passes shows its end in every run that reaches the frame, so that some frame answers End
@@ -62,15 +63,15 @@ module _ (bank : List ℕ) (bytes : AllBytes bank) (places : Places) (track : �
       (first_end (run_of bank places track n) ≡ nothing) × (first_refusal (run_of bank places track n) ≡ nothing)
   before_end {frame} e n h = (shows_end_lem e n ∙ unreached n frame _ h, shows_refusal e n)
 
-  pub before_fault : {number channel at frame address : ℕ} → verdict_of bank places track ≡ Verdict.Fault number channel at frame address →
+  pub before_fault : {refusal : Refusal} {channel at frame address : ℕ} → verdict_of bank places track ≡ Verdict.Fault refusal channel at frame address →
       (n : ℕ) → n ≤ frame →
       (first_end (run_of bank places track n) ≡ nothing) × (first_refusal (run_of bank places track n) ≡ nothing)
   before_fault {frame} e n h = (shows_end_lem e n, shows_refusal e n ∙ unreached n frame _ h)
 
   never_passes : NeverRefused → (verdict : Verdict) → verdict_of bank places track ≡ verdict → Passes
   never_passes never (Verdict.Pass frame channel) e = (frame, channel, e)
-  never_passes never (Verdict.Refused number) e = absurd (shown_not _ (sym (never 0) ∙ start_refused e 0))
-  never_passes never (Verdict.Fault number channel at frame address) e =
+  never_passes never (Verdict.Refused refusal) e = absurd (shown_not _ (sym (never 0) ∙ start_refused e 0))
+  never_passes never (Verdict.Fault refusal channel at frame address) e =
       absurd (shown_not _ (sym (never (frame + 1)) ∙ fault_reached e (frame + 1) (omega arith)))
 
   -- the check passes a track exactly when no run of any length is refused
@@ -78,12 +79,12 @@ module _ (bank : List ℕ) (bytes : AllBytes bank) (places : Places) (track : �
   passes_exactly = ((λ p n. shows_refusal p.2 n), (λ never. never_passes never _ refl))
 
   -- a run's first refusal in a frame is one of 10 to 15: 1 to 9 are start's, and the records of a run pass 16
-  pub frames_fault_only : (n number frame : ℕ) → first_refusal (run_of bank places track n) ≡ shown (of_frame number frame) → ⊥
-  frames_fault_only n number frame e = by (verdict_of bank places track) (sym e ∙ (demand3 bank places track bytes n).refusal)
+  pub frames_fault_only : (n : ℕ) (refusal : Refusal) (frame : ℕ) → first_refusal (run_of bank places track n) ≡ shown (of_frame refusal frame) → ⊥
+  frames_fault_only n refusal frame e = by (verdict_of bank places track) (sym e ∙ (demand3 bank places track bytes n).refusal)
     where
-      by : (verdict : Verdict) → shown (of_frame number frame) ≡ refusal_foreseen n verdict → ⊥
+      by : (verdict : Verdict) → shown (of_frame refusal frame) ≡ refusal_foreseen n verdict → ⊥
       by (Verdict.Pass at channel) e = shown_not _ (sym e)
-      by (Verdict.Refused m) e = let z : ◌≡◌ {A = ℕ} 0 1 = cc in omega arith
-      by (Verdict.Fault m channel at reached address) e =
-          by-test (λ s. shown (of_frame number frame) ≡ s → ⊥) (ltb reached n)
+      by (Verdict.Refused other) e = let z : ◌≡◌ {A = ℕ} 0 1 = cc in omega arith
+      by (Verdict.Fault other channel at reached address) e =
+          by-test (λ s. shown (of_frame refusal frame) ≡ s → ⊥) (ltb reached n)
           (λ _ e. let z : ◌≡◌ {A = ℕ} 0 1 = cc in omega arith) (λ _ e. shown_not _ (sym e)) e

@@ -5,9 +5,11 @@ use mathlib.Core.List.{List, [], ◌∷◌, map}
 use mathlib.Core.Path.{◌≡◌, refl, ap, subst, ◌∙◌}
 use native.Mathlib.Omega.{arith}
 use native.Mathlib.Nat.{add-zero}
+use Rattle.std.specs.Prelude.{Ok, Err}
+use Rattle.engine_base.specs.declared.refusal.Refusal.{Refusal as Reason}
 use lib.Dec.{leb-zero, leb-suc-zero, leb-suc-suc}
 use Rattle.metroid_format.specs.declared.header.Track.{Track}
-use Rattle.metroid_format.specs.declared.timeline.Finish.{Finish}
+use Rattle.metroid_format.specs.Timeline.{Finish}
 use Rattle.metroid_player.specs.Record.{ended_player, stopped_player, most_frames}
 use Rattle.engine_base.specs.Channels.{AtMost}
 use Rattle.metroid_player.specs.Counts.{most_commands}
@@ -30,34 +32,34 @@ pub data Outlook : Type 0 where
   stopped : Outlook
 
 abbrev pub end_ahead : ℕ → ℕ → ℕ → Finish → Outlook → Shown End
-end_ahead k n i Finish.End (stopping m) = if_reached n m (record { frame = k + m; channel = i })
-end_ahead k n i Finish.End stopped = nothing
-end_ahead k n i (Finish.Refused number at address) o = nothing
+end_ahead k n i (Ok passed) (stopping m) = if_reached n m (record { frame = k + m; channel = i })
+end_ahead k n i (Ok passed) stopped = nothing
+end_ahead k n i (Err (refusal, at, address)) o = nothing
 
 abbrev pub refusal_ahead : ℕ → ℕ → ℕ → Finish → Outlook → Shown Refusal
-refusal_ahead k n i Finish.End o = nothing
-refusal_ahead k n i (Finish.Refused number at address) (stopping m) = if_reached n m (of_data number i at (k + m) address)
-refusal_ahead k n i (Finish.Refused number at address) stopped = nothing
+refusal_ahead k n i (Ok passed) o = nothing
+refusal_ahead k n i (Err (refusal, at, address)) (stopping m) = if_reached n m (of_data refusal i at (k + m) address)
+refusal_ahead k n i (Err (refusal, at, address)) stopped = nothing
 
 module _ (bank : List ℕ) (track : Track) where
   -- where a run stands that stops in the i-th channel, and whose passes have that length
   pub data Stands (i length : ℕ) : Player → Finish → Outlook → Type 0 where
     going : {player : Player} {now : List Ahead} {n : ℕ} {finish : Finish} → InRun bank track player now → Least now n i finish →
         player.frames_left ≡ n → player.pass_length ≡ length → Stands i length player finish (stopping n)
-    over : track.restart ≡ false → Stands i length stopped_player Finish.End stopped
+    over : track.restart ≡ false → Stands i length stopped_player (Ok tt) stopped
 
   -- a frame, and where the run stands after it
   pub data Steps (i length : ℕ) (f : Framed) : Finish → Outlook → Type 0 where
     plays : {n : ℕ} {finish : Finish} → f.answer ≡ Answer.Events → Stands i length f.player finish (stopping n) →
         Steps i length f finish (stopping (suc n))
     restarts : track.restart ≡ true → f.answer ≡ Answer.End → last_counted f.counts ≡ i →
-        Stands i length f.player Finish.End (stopping length) → Steps i length f Finish.End (stopping 0)
+        Stands i length f.player (Ok tt) (stopping length) → Steps i length f (Ok tt) (stopping 0)
     ends : track.restart ≡ false → f.answer ≡ Answer.End → last_counted f.counts ≡ i →
-        Stands i length f.player Finish.End stopped → Steps i length f Finish.End (stopping 0)
-    faults : {number at address : ℕ} → f.answer ≡ Answer.Fault number i at address →
-        Stands i length f.player (Finish.Refused number at address) (stopping 0) →
-        Steps i length f (Finish.Refused number at address) (stopping 0)
-    stays : f.answer ≡ Answer.Stopped → Stands i length f.player Finish.End stopped → Steps i length f Finish.End stopped
+        Stands i length f.player (Ok tt) stopped → Steps i length f (Ok tt) (stopping 0)
+    faults : {refusal : Reason} {at address : ℕ} → f.answer ≡ Answer.Fault refusal i at address →
+        Stands i length f.player (Err (refusal, at, address)) (stopping 0) →
+        Steps i length f (Err (refusal, at, address)) (stopping 0)
+    stays : f.answer ≡ Answer.Stopped → Stands i length f.player (Ok tt) stopped → Steps i length f (Ok tt) stopped
 
   step_counts : Starts bank track → {i length : ℕ} {player : Player} {finish : Finish} {o : Outlook} → Stands i length player finish o →
       AtMost most_commands (frame_of_track bank track player).counts
@@ -66,9 +68,9 @@ module _ (bank : List ℕ) (track : Track) where
 
   module _ (s : Starts bank track) {n₀ i : ℕ} (small : n₀ ≤ most_frames) where
     -- a restart begins anew, so that the same end is ahead
-    step_end : (f : Framed) (restart : Bool) → track.restart ≡ restart → Least (map (ahead_of bank track) track.voices) n₀ i Finish.End →
+    step_end : (f : Framed) (restart : Bool) → track.restart ≡ restart → Least (map (ahead_of bank track) track.voices) n₀ i (Ok tt) →
         f.answer ≡ Answer.End → last_counted f.counts ≡ i → f.player ≡ ended_player restart n₀ →
-        Steps i n₀ f Finish.End (stopping 0)
+        Steps i n₀ f (Ok tt) (stopping 0)
     step_end f true e l a c p = restarts e a c (rw p (going (s.run n₀ small) l refl refl))
     step_end f false e l a c p = ends e a c (rw p (over e))
 
@@ -77,12 +79,12 @@ module _ (bank : List ℕ) (track : Track) where
         player.frames_left ≡ n → player.pass_length ≡ n₀ → Steps i n₀ (frame_of_track bank track player) finish (stopping n)
     step_going player (suc n) finish l₀ r l left length =
         let (a, then, r', l') = plays_before bank track s.whole r l in
-        let (less, same) = subst (LeftBy track player (frame_of_track bank track player).player) a (track_left bank track player).1 in
+        let (less, same) = subst (LeftBy track.restart player (frame_of_track bank track player).player) a (track_left bank track player).1 in
         plays a (going r' l' (omega (arith, less, left)) (same ∙ length))
-    step_going player zero Finish.End l₀ r l left length =
+    step_going player zero (Ok passed) l₀ r l left length =
         let (a, c, p) = stops_at bank track s.whole r l in
         step_end _ track.restart refl l₀ a c (p ∙ ap (ended_player track.restart) length)
-    step_going player zero (Finish.Refused number at address) l₀ r l left length =
+    step_going player zero (Err (refusal, at, address)) l₀ r l left length =
         let (a, p) = stops_at bank track s.whole r l in
         faults a (rw p (going r l left length))
 
@@ -110,23 +112,23 @@ pub record Shows (k n i : ℕ) (finish : Finish) (o : Outlook) (fs : List Framed
 module _ (k i : ℕ) where
   shows_none : (finish : Finish) (o : Outlook) → Shows k 0 i finish o []
   unfolding end_from refusal_from
-  shows_none Finish.End (stopping m) = record { end = none_reached 0 m _; refusal = refl; commands = tt }
-  shows_none Finish.End stopped = record { end = refl; refusal = refl; commands = tt }
-  shows_none (Finish.Refused number at address) (stopping m) = record { end = refl; refusal = none_reached 0 m _; commands = tt }
-  shows_none (Finish.Refused number at address) stopped = record { end = refl; refusal = refl; commands = tt }
+  shows_none (Ok passed) (stopping m) = record { end = none_reached 0 m _; refusal = refl; commands = tt }
+  shows_none (Ok passed) stopped = record { end = refl; refusal = refl; commands = tt }
+  shows_none (Err (refusal, at, address)) (stopping m) = record { end = refl; refusal = none_reached 0 m _; commands = tt }
+  shows_none (Err (refusal, at, address)) stopped = record { end = refl; refusal = refl; commands = tt }
 
   module _ (n : ℕ) (f : Framed) (fs : List Framed) (counts : AtMost most_commands f.counts) where
     shows_plays : (m : ℕ) (finish : Finish) → f.answer ≡ Answer.Events → Shows (k + 1) n i finish (stopping m) fs →
         Shows k (suc n) i finish (stopping (suc m)) (f ∷ fs)
     unfolding end_from refusal_from
-    shows_plays m Finish.End a later =
+    shows_plays m (Ok passed) a later =
         let same : k + 1 + m ≡ k + suc m = omega arith in
         record {
           end = rw a (later.end ∙ later_reached n m _ _ (rw same));
           refusal = rw a later.refusal;
           commands = (counts, later.commands);
         }
-    shows_plays m (Finish.Refused number at address) a later =
+    shows_plays m (Err (refusal, at, address)) a later =
         let same : k + 1 + m ≡ k + suc m = omega arith in
         record {
           end = rw a later.end;
@@ -134,8 +136,8 @@ module _ (k i : ℕ) where
           commands = (counts, later.commands);
         }
 
-    shows_ends : {o : Outlook} → f.answer ≡ Answer.End → last_counted f.counts ≡ i → Shows (k + 1) n i Finish.End o fs →
-        Shows k (suc n) i Finish.End (stopping 0) (f ∷ fs)
+    shows_ends : {o : Outlook} → f.answer ≡ Answer.End → last_counted f.counts ≡ i → Shows (k + 1) n i (Ok tt) o fs →
+        Shows k (suc n) i (Ok tt) (stopping 0) (f ∷ fs)
     unfolding end_from refusal_from
     shows_ends a c later = record {
       end = rw a (first_reached n 0 _ _ (rw (c, add-zero)));
@@ -143,8 +145,8 @@ module _ (k i : ℕ) where
       commands = (counts, later.commands);
     }
 
-    shows_faults : {number at address : ℕ} {o : Outlook} → f.answer ≡ Answer.Fault number i at address →
-        Shows (k + 1) n i (Finish.Refused number at address) o fs → Shows k (suc n) i (Finish.Refused number at address) (stopping 0) (f ∷ fs)
+    shows_faults : {refusal : Reason} {at address : ℕ} {o : Outlook} → f.answer ≡ Answer.Fault refusal i at address →
+        Shows (k + 1) n i (Err (refusal, at, address)) o fs → Shows k (suc n) i (Err (refusal, at, address)) (stopping 0) (f ∷ fs)
     unfolding end_from refusal_from
     shows_faults a later = record {
       end = rw a later.end;
@@ -152,7 +154,7 @@ module _ (k i : ℕ) where
       commands = (counts, later.commands);
     }
 
-    shows_stays : f.answer ≡ Answer.Stopped → Shows (k + 1) n i Finish.End stopped fs → Shows k (suc n) i Finish.End stopped (f ∷ fs)
+    shows_stays : f.answer ≡ Answer.Stopped → Shows (k + 1) n i (Ok tt) stopped fs → Shows k (suc n) i (Ok tt) stopped (f ∷ fs)
     unfolding end_from refusal_from
     shows_stays a later = record { end = rw a later.end; refusal = rw a later.refusal; commands = (counts, later.commands) }
 

@@ -28,14 +28,14 @@ if_reached n frame x = pick (ltb frame n) (shown x) nothing
 -- the end that a verdict names
 abbrev pub end_foreseen : ℕ → Verdict → Shown End
 end_foreseen n (Verdict.Pass frame channel) = if_reached n frame (record { frame = frame; channel = channel })
-end_foreseen n (Verdict.Refused number) = nothing
-end_foreseen n (Verdict.Fault number channel at frame address) = nothing
+end_foreseen n (Verdict.Refused reason) = nothing
+end_foreseen n (Verdict.Fault reason channel at frame address) = nothing
 
 -- the refusal that a verdict names; start's is shown by a list of any length
 abbrev pub refusal_foreseen : ℕ → Verdict → Shown Refusal
 refusal_foreseen n (Verdict.Pass frame channel) = nothing
-refusal_foreseen n (Verdict.Refused number) = shown (of_start number)
-refusal_foreseen n (Verdict.Fault number channel at frame address) = if_reached n frame (of_data number channel at frame address)
+refusal_foreseen n (Verdict.Refused reason) = shown (of_start reason)
+refusal_foreseen n (Verdict.Fault reason channel at frame address) = if_reached n frame (of_data reason channel at frame address)
 
 -- a run of n frames shows what the verdict foresees, and no channel reads more than 32,896 commands in a frame
 pub record Demand3 (bank : List ℕ) (places : Places) (track n : ℕ) (verdict : Verdict) : Type 0 where

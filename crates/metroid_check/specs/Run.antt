@@ -1,11 +1,12 @@
 -- Document 01, 'The run of demand 3'.
-use Rattle.std.specs.Prelude.{ℕ, zero, suc, ◌+◌, List, [], ◌∷◌, eqb}
+use Rattle.std.specs.Prelude.{ℕ, zero, suc, ◌+◌, Option, Some, None, List, [], ◌∷◌, eqb}
 use Rattle.engine_base.specs.Pick.{pick}
 use Rattle.metroid_format.specs.declared.bank.Places.{Places}
 use Rattle.engine_base.specs.Channels.{AtMost}
 use Rattle.metroid_player.specs.Frame.{start_of, frame_of}
 use Rattle.metroid_player.specs.declared.record.Player.{Player}
 use Rattle.engine_base.specs.declared.answer.Answer.{Answer}
+use Rattle.engine_base.specs.declared.refusal.Refusal.{Refusal as Reason}
 use Rattle.metroid_player.specs.declared.frame.Framed.{Framed}
 use Rattle.metroid_player.specs.declared.frame.Started.{Started}
 
@@ -38,11 +39,11 @@ pub record End : Type 0 where
   pub frame : ℕ
   pub channel : ℕ
 
--- its number; where a frame is refused that frame, and for 10 to 15 the channel, the offset and, last, the address
+-- what is refused; where a frame is refused that frame, and for 10 to 15 the channel, the offset and, last, the address
 pub data Refusal : Type 0 where
-  of_start : ℕ → Refusal
-  of_frame : ℕ → ℕ → Refusal
-  of_data : ℕ → ℕ → ℕ → ℕ → ℕ → Refusal
+  of_start : Reason → Refusal
+  of_frame : Reason → ℕ → Refusal
+  of_data : Reason → ℕ → ℕ → ℕ → ℕ → Refusal
 
 abbrev pub last_from : ℕ → ℕ → List ℕ → ℕ
 last_from i found [] = found
@@ -56,8 +57,8 @@ abbrev pub end_by : ℕ → List ℕ → Shown End → Answer → Shown End
 end_by k counts later Answer.Events = later
 end_by k counts later Answer.End = shown (record { frame = k; channel = last_counted counts })
 end_by k counts later Answer.Stopped = later
-end_by k counts later (Answer.Refused number) = later
-end_by k counts later (Answer.Fault number channel at address) = later
+end_by k counts later (Answer.Refused refusal) = later
+end_by k counts later (Answer.Fault refusal channel at address) = later
 
 -- the first frame that answers End, numbered from k; its channel is the last in order with a count above 0 in that answer
 unfoldable pub end_from : ℕ → List Framed → Shown End
@@ -68,8 +69,8 @@ abbrev pub refusal_by : ℕ → Shown Refusal → Answer → Shown Refusal
 refusal_by k later Answer.Events = later
 refusal_by k later Answer.End = later
 refusal_by k later Answer.Stopped = later
-refusal_by k later (Answer.Refused number) = shown (of_frame number k)
-refusal_by k later (Answer.Fault number channel at address) = shown (of_data number channel at k address)
+refusal_by k later (Answer.Refused reason) = shown (of_frame reason k)
+refusal_by k later (Answer.Fault reason channel at address) = shown (of_data reason channel at k address)
 
 -- that of the lowest-numbered refused frame
 unfoldable pub refusal_from : ℕ → List Framed → Shown Refusal
@@ -80,10 +81,13 @@ refusal_from k (f ∷ fs) = refusal_by k (refusal_from (k + 1) fs) f.answer
 abbrev pub first_end : Run → Shown End
 first_end run = end_from 0 run.frames
 
+abbrev pub refusal_start : Option Reason → Shown Refusal → Shown Refusal
+refusal_start None later = later
+refusal_start (Some reason) later = shown (of_start reason)
+
 -- start's, else a frame's
 abbrev pub first_refusal : Run → Shown Refusal
-first_refusal run =
-    pick (eqb run.started.number 0) (refusal_from 0 run.frames) (shown (of_start run.started.number))
+first_refusal run = refusal_start run.started.refusal (refusal_from 0 run.frames)
 
 -- every channel of every frame reads at most so many commands
 abbrev pub ReadAtMost : ℕ → List Framed → Type 0

@@ -1,4 +1,5 @@
 pub mod Ruled
+pub mod Sourced
 pub mod ReadSteps
 pub mod Stepped
 pub mod ReadBound

@@ -1,18 +1,26 @@
 -- Document 01, 'Bytes of a channel'.
-use Rattle.std.specs.Prelude.{ℕ, ◌+◌, ◌*◌, ◌/◌, ◌%◌, Bool, true, false, List, [], ◌∷◌, leb, eqb, length, get_or}
+use Rattle.std.specs.Prelude.{ℕ, Result, Ok, Err, ◌+◌, ◌*◌, ◌/◌, ◌%◌, Bool, true, false, List, [], ◌∷◌, leb, eqb, length, get_or}
 use Rattle.engine_base.specs.Pick.{pick}
 use Rattle.engine_base.specs.Told.{Told}
-use Rattle.engine_base.specs.Refusal.{invalid_command, invalid_note, past_data}
+use Rattle.engine_base.specs.Refusal.{number_of}
+use Rattle.engine_base.specs.declared.refusal.Refusal.{Refusal}
+use Rattle.engine_base.specs.declared.refusal.Refusal.TheVariants.{InvalidCommand, InvalidNote, PastData}
 use Rattle.metroid_format.specs.declared.command.Kind.{Kind}
 use Rattle.metroid_format.specs.declared.command.Kind.TheVariants.{Melodic, Noise}
 use Rattle.metroid_format.specs.declared.command.Command.{Command}
 use Rattle.metroid_format.specs.declared.command.Command.TheVariants.{End, EndLoop, BeginLoop, Length, Note}
-use Rattle.metroid_format.specs.declared.command.Decoded.{Decoded}
-use Rattle.metroid_format.specs.declared.command.Decoded.TheVariants.{Found, Refused}
 
 -- data runs for so many bytes at most
 abbrev pub data_limit : ℕ
 data_limit = 256
+
+-- the command and the offset after it, or the refusal and the offset of the byte
+abbrev pub Decoded : Type 0
+Decoded = Result (Command × ℕ) (Refusal × ℕ)
+
+-- the end of straight reading, or the refusal and the offset of the byte
+abbrev pub Finish : Type 0
+Finish = Result (Unit {0}) (Refusal × ℕ)
 
 -- an even byte to $7E is key byte/2
 unfoldable pub is_key : ℕ → Bool
@@ -29,23 +37,23 @@ is_note Noise b = is_preset b
 -- what stands directly after BL is a key or preset whatever it is
 unfoldable pub note_after : Kind → List ℕ → ℕ → ℕ → Decoded
 note_after kind bytes at length-index =
-    pick (leb (length bytes) at) (Refused past_data at)
-    (pick (is_note kind (get_or bytes at 0)) (Found (Length length-index (get_or bytes at 0)) (at + 1)) (Refused invalid_note at))
+    pick (leb (length bytes) at) (Err (PastData, at))
+    (pick (is_note kind (get_or bytes at 0)) (Ok (Length length-index (get_or bytes at 0), at + 1)) (Err (InvalidNote, at)))
 
 -- the rule for a byte b at an offset, given what follows a BL there: the first that fits decides
 unfoldable pub command_of : Kind → ℕ → ℕ → Decoded → Decoded
 command_of kind at b after =
-    pick (eqb b 0x00) (Found End (at + 1))
-    (pick (eqb b 0xff) (Found EndLoop (at + 1))
-    (pick (eqb (b / 64) 3) (Found (BeginLoop (b % 64)) (at + 1))
+    pick (eqb b 0x00) (Ok (End, at + 1))
+    (pick (eqb b 0xff) (Ok (EndLoop, at + 1))
+    (pick (eqb (b / 64) 3) (Ok (BeginLoop (b % 64), at + 1))
     (pick (eqb (b / 16) 0x0b) after
-    (pick (leb 0x80 b) (Refused invalid_command at)
-    (pick (is_note kind b) (Found (Note b) (at + 1)) (Refused invalid_note at))))))
+    (pick (leb 0x80 b) (Err (InvalidCommand, at))
+    (pick (is_note kind b) (Ok (Note b, at + 1)) (Err (InvalidNote, at)))))))
 
 -- the command at an offset with the offset after it, or the refusal with the offset of the byte
 unfoldable pub command_at : Kind → List ℕ → ℕ → Decoded
 command_at kind bytes at =
-    pick (leb (length bytes) at) (Refused past_data at)
+    pick (leb (length bytes) at) (Err (PastData, at))
     (command_of kind at (get_or bytes at 0) (note_after kind bytes (at + 1) (get_or bytes at 0 % 16)))
 
 -- a command's word: first byte low, second byte of BL high
@@ -66,5 +74,5 @@ is_end (Note b) = false
 -- Below: only private contracts and laws use these.
 
 abbrev pub told : Decoded → Told
-told (Found c next) = record { number = 0; values = word_of c ∷ next ∷ [] }
-told (Refused n at) = record { number = n; values = at ∷ [] }
+told (Ok (c, next)) = record { number = 0; values = word_of c ∷ next ∷ [] }
+told (Err (refusal, at)) = record { number = number_of refusal; values = at ∷ [] }

@@ -1,8 +1,10 @@
 -- Document 01, 'The bank and its places', and numbers 1 to 9 of 'Numbers of refusal'.
-use Rattle.std.specs.Prelude.{ℕ, ◌+◌, ◌/◌, Bool, true, false, not, List, [], ◌∷◌, map, leb, ltb, eqb, length, get_or, take, drop}
+use Rattle.std.specs.Prelude.{ℕ, ◌+◌, ◌/◌, Bool, true, not, List, [], ◌∷◌, Option, None, Some, Result, Ok, Err, map, leb, ltb, eqb, length, get_or, take, drop}
 use Rattle.engine_base.specs.Pick.{pick, unless, all}
 use Rattle.engine_base.specs.Told.{Told}
-use Rattle.engine_base.specs.Refusal.{wrong_size, table_outside, no_track, header_outside, window_too_high, envelope_too_high, no_envelope_end, channel_outside, no_channel}
+use Rattle.engine_base.specs.Refusal.{number_of as number}
+use Rattle.engine_base.specs.declared.refusal.Refusal.{Refusal}
+use Rattle.engine_base.specs.declared.refusal.Refusal.TheVariants.{WrongSize, TableOutside, NoTrack, HeaderOutside, WindowTooHigh, EnvelopeTooHigh, NoEnvelopeEnd, ChannelOutside, NoChannel}
 use Rattle.engine_base.specs.Address.{offset_of, within}
 use Rattle.metroid_format.specs.Bank.{bank_size, lengths_size, periods_size, presets_size, envelopes_size}
 use Rattle.engine_base.specs.Bytes.{word_at}
@@ -12,7 +14,6 @@ use Rattle.metroid_format.specs.declared.command.Kind.TheVariants.{Melodic, Nois
 use Rattle.metroid_format.specs.declared.bank.Places.{Places}
 use Rattle.metroid_format.specs.declared.header.Voice.{Voice}
 use Rattle.metroid_format.specs.declared.header.Track.{Track}
-use Rattle.metroid_format.specs.declared.header.Opened.{Opened}
 
 -- the tables that all tracks share, each wholly within the bank
 unfoldable pub tables_fit : Places → Bool
@@ -81,43 +82,39 @@ addresses_fit header = all (map address_fits (addresses header))
 unfoldable pub all_unused : List ℕ → Bool
 all_unused header = all (map (λ a. eqb a 0) (addresses header))
 
--- the first number of 5 to 9 that a header shows, or 0
-unfoldable pub header_number : List ℕ → ℕ → List ℕ → ℕ
+-- the first refusal of 5 to 9 that a header shows
+unfoldable pub header_number : List ℕ → ℕ → List ℕ → Result (Unit {0}) Refusal
 header_number bank table header =
-    unless (window_fits header) window_too_high
-    (unless (envelope_numbers_fit header) envelope_too_high
-    (unless (squares_end bank table header) no_envelope_end
-    (unless (addresses_fit header) channel_outside
-    (pick (all_unused header) no_channel 0))))
+    unless (window_fits header) WindowTooHigh
+    (unless (envelope_numbers_fit header) EnvelopeTooHigh
+    (unless (squares_end bank table header) NoEnvelopeEnd
+    (unless (addresses_fit header) ChannelOutside
+    (pick (all_unused header) (Err NoChannel) (Ok tt)))))
 
--- the first number of 1 to 9, or 0
-unfoldable pub number_of : List ℕ → Places → ℕ → ℕ
+-- the first refusal of 1 to 9
+unfoldable pub number_of : List ℕ → Places → ℕ → Result (Unit {0}) Refusal
 number_of bank places track =
-    unless (eqb (length bank) bank_size) wrong_size
-    (unless (places_fit places) table_outside
-    (unless (ltb track places.track_count) no_track
-    (unless (within (header_address bank places track) header_size) header_outside
+    unless (eqb (length bank) bank_size) WrongSize
+    (unless (places_fit places) TableOutside
+    (unless (ltb track places.track_count) NoTrack
+    (unless (within (header_address bank places track) header_size) HeaderOutside
     (header_number bank places.envelope_addresses (header_of bank places track)))))
 
--- an unused channel has nothing but its kind
-abbrev pub unused_voice : Kind → Voice
-unused_voice k =
-    record { used = false; kind = k; «data» = 0; has_envelope = false; envelope = 0; default = 0 }
-
--- a used channel, with an envelope or none, and where it starts
-abbrev pub used_voice : Kind → ℕ → ℕ → Bool → ℕ → Voice
-used_voice k address ctrl1 has at =
-    record { used = true; kind = k; «data» = offset_of address; has_envelope = has; envelope = at; default = ctrl1 }
+-- a used channel: where it starts, and where its envelope starts if it has one
+abbrev pub used_voice : Kind → ℕ → ℕ → Option ℕ → Voice
+used_voice k address ctrl1 envelope =
+    record { kind = k; «data» = offset_of address; envelope = envelope; default = ctrl1 }
 
 -- a channel by its address, its envelope number and its default ctrl 1 byte
-unfoldable pub voice_of : List ℕ → ℕ → Kind → ℕ → ℕ → ℕ → Voice
+unfoldable pub voice_of : List ℕ → ℕ → Kind → ℕ → ℕ → ℕ → Option Voice
 voice_of bank table k address number ctrl1 =
-    pick (eqb address 0) (unused_voice k)
-    (pick (eqb number 0) (used_voice k address ctrl1 false 0)
-    (used_voice k address ctrl1 true (offset_of (envelope_address bank table number))))
+    pick (eqb address 0) None
+    (Some
+    (used_voice k address ctrl1
+    (pick (eqb number 0) None (Some (offset_of (envelope_address bank table number))))))
 
 -- square 1, square 2, triangle, noise
-unfoldable pub voices_of : List ℕ → Places → List ℕ → List Voice
+unfoldable pub voices_of : List ℕ → Places → List ℕ → List (Option Voice)
 voices_of bank places header =
     voice_of bank places.envelope_addresses Melodic (word_at header 5) (get_or header 3 0) places.default1
     ∷ voice_of bank places.envelope_addresses Melodic (word_at header 7) (get_or header 4 0) places.default2
@@ -137,33 +134,21 @@ track_of bank places header = record {
   voices = voices_of bank places header;
 }
 
-abbrev pub blank_track : Track
-blank_track = record {
-  window = 0;
-  restart = false;
-  release = 0;
-  lengths = 0;
-  periods = 0;
-  presets = 0;
-  voices = unused_voice Melodic ∷ unused_voice Melodic ∷ unused_voice Melodic ∷ unused_voice Melodic ∷ [];
-}
+-- the track, or the first refusal of 1 to 9
+abbrev pub opened : Result (Unit {0}) Refusal → Track → Result Track Refusal
+opened (Ok passed) t = Ok t
+opened (Err refusal) t = Err refusal
 
--- number 0 and the track, or the first number of 1 to 9 and a blank track
-abbrev pub opened : ℕ → Track → Opened
-opened n t = record { number = n; track = pick (eqb n 0) t blank_track }
-
-unfoldable pub open_track : List ℕ → Places → ℕ → Opened
+unfoldable pub open_track : List ℕ → Places → ℕ → Result Track Refusal
 open_track bank places track =
     opened (number_of bank places track) (track_of bank places (header_of bank places track))
 
-abbrev pub told_opened : Opened → Told
-told_opened o = record { number = o.number; values = [] }
+abbrev pub told_opened : Result Track Refusal → Told
+told_opened (Ok track) = record { number = 0; values = [] }
+told_opened (Err refusal) = record { number = number refusal; values = [] }
 
 -- Below: only private contracts and laws use these.
 
 -- the start address of the i-th channel
 abbrev pub channel_start : List ℕ → ℕ → ℕ
 channel_start header i = get_or (addresses header) i 0
-
-abbrev pub refused_track : ℕ → Opened
-refused_track n = record { number = n; track = blank_track }

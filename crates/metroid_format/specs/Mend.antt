@@ -1,18 +1,19 @@
 -- Document 02, No. 5: mending one channel's data, and the list of what was changed.
-use Rattle.std.specs.Prelude.{ℕ, zero, suc, ◌+◌, ◌-◌, ◌*◌, ◌≤◌, ◌<◌, List, [], ◌∷◌, ◌++◌, ◌≡◌, leb, eqb, length, set, drop}
+use Rattle.std.specs.Prelude.{ℕ, zero, suc, ◌+◌, ◌-◌, ◌*◌, ◌≤◌, ◌<◌, List, [], ◌∷◌, ◌++◌, ◌≡◌, Result, Ok, Err, leb, eqb, length, set, drop}
 use Rattle.std.proofs.lemmas.List.Edits.{sets}
-use Rattle.engine_base.specs.Pick.{pick}
+use Rattle.engine_base.specs.Pick.{pick, unless}
 use Rattle.engine_base.specs.Told.{Told, Answers}
-use Rattle.engine_base.specs.Refusal.{past_data, no_room, wrong_data_size}
-use Rattle.metroid_format.specs.Command.{command_at, is_end}
+use Rattle.engine_base.specs.Refusal.{number_of}
+use Rattle.engine_base.specs.declared.refusal.Refusal.{Refusal}
+use Rattle.engine_base.specs.declared.refusal.Refusal.TheVariants.{PastData, NoRoom, WrongDataSize}
+use Rattle.metroid_format.specs.Command.{Decoded, command_at, is_end}
 use Rattle.metroid_format.specs.Words.{straight, left_by}
 use Rattle.metroid_format.specs.declared.command.Kind.{Kind}
 use Rattle.metroid_format.specs.declared.command.Kind.TheVariants.{Melodic, Noise}
-use Rattle.metroid_format.specs.declared.command.Decoded.{Decoded}
-use Rattle.metroid_format.specs.declared.command.Decoded.TheVariants.{Found, Refused}
-use Rattle.metroid_format.specs.declared.command.Finish.TheVariants.{End as Ended}
-use Rattle.metroid_format.specs.declared.mend.Mending.{Mending}
-use Rattle.metroid_format.specs.declared.mend.Mending.TheVariants.{Mended, WrongSize, NoRoom}
+
+-- how many bytes were changed, or the refusal
+abbrev pub Mending : Type 0
+Mending = Result ℕ Refusal
 
 -- the rest byte
 abbrev pub rest_of : Kind → ℕ
@@ -33,9 +34,10 @@ onward kind at next go bytes = pick (leb (length bytes) next) (closed kind at by
 
 -- up to the first end; a byte that is refused 10 or 11 becomes the rest byte and is passed
 abbrev pub mended_by : Kind → List ℕ → ℕ → (ℕ → List ℕ → List ℕ) → Decoded → List ℕ
-mended_by kind bytes at go (Found c next) = pick (is_end c) bytes (onward kind at next go bytes)
-mended_by kind bytes at go (Refused number offset) =
-    pick (eqb number past_data) (closed kind at bytes) (onward kind at (offset + 1) go (set bytes offset (rest_of kind)))
+mended_by kind bytes at go (Ok (c, next)) = pick (is_end c) bytes (onward kind at next go bytes)
+mended_by kind bytes at go (Err (refusal, offset)) =
+    pick (eqb (number_of refusal) (number_of PastData)) (closed kind at bytes)
+    (onward kind at (offset + 1) go (set bytes offset (rest_of kind)))
 
 -- reading straight from an offset on, with at most so many bytes left
 unfoldable pub mended_from : Kind → ℕ → ℕ → List ℕ → List ℕ
@@ -74,15 +76,13 @@ changes_of kind bytes = changes bytes (mended kind bytes)
 -- data empty or over the limit, then a list without room
 unfoldable pub mending : ℕ → Kind → List ℕ → ℕ → Mending
 mending limit kind bytes room =
-    pick (eqb (length bytes) 0) WrongSize
-    (pick (leb (length bytes) limit)
-    (pick (leb (length (change_words (changes_of kind bytes))) room) (Mended (length (changes_of kind bytes))) NoRoom)
-    WrongSize)
+    pick (eqb (length bytes) 0) (Err WrongDataSize)
+    (unless (leb (length bytes) limit) WrongDataSize
+    (unless (leb (length (change_words (changes_of kind bytes))) room) NoRoom (Ok (length (changes_of kind bytes)))))
 
 abbrev pub told_mending : Mending → Told
-told_mending (Mended count) = record { number = 0; values = count ∷ [] }
-told_mending WrongSize = record { number = wrong_data_size; values = [] }
-told_mending NoRoom = record { number = no_room; values = [] }
+told_mending (Ok count) = record { number = 0; values = count ∷ [] }
+told_mending (Err refusal) = record { number = number_of refusal; values = [] }
 
 -- the data after a mending
 unfoldable pub data_left : ℕ → Kind → List ℕ → ℕ → List ℕ
@@ -108,8 +108,8 @@ Differing (c ∷ cs) = (c.old ≡ c.new → ⊥) × Differing cs
 
 -- what mending owes: data that reads, and is as it was if it read before; changes that restore it, at rising offsets in it, each to another byte
 pub record Saves (kind : Kind) (bytes after : List ℕ) (cs : List Change) : Type 0 where
-  pub reads : (straight kind after).finish ≡ Ended
-  pub kept : (straight kind bytes).finish ≡ Ended → (after ≡ bytes) × (cs ≡ [])
+  pub reads : (straight kind after).finish ≡ Ok tt
+  pub kept : (straight kind bytes).finish ≡ Ok tt → (after ≡ bytes) × (cs ≡ [])
   pub restored : put_back cs after ≡ bytes
   pub rising : Rising 0 (length bytes) cs
   pub differing : Differing cs
@@ -120,7 +120,7 @@ pub record Mends (limit : ℕ) (kind : Kind) (bytes list : List ℕ) (answer : M
   pub answered : Answers told_mending answer (mending limit kind bytes (length list))
   pub mends : bytes' ≡ data_left limit kind bytes (length list)
   pub lists : list' ≡ list_left limit kind bytes list
-  pub saves : (count : ℕ) → answer ≡ Mended count → Saves kind bytes bytes' (changes_of kind bytes)
+  pub saves : (count : ℕ) → answer ≡ Ok count → Saves kind bytes bytes' (changes_of kind bytes)
 
 -- Below: only private contracts and laws use these.
 
@@ -140,12 +140,16 @@ abbrev pub changed_or : List ℕ → List ℕ → List ℕ → {A : Type 0} → 
 changed_or bytes new list x y = pick (leb (length (change_words (changes bytes new))) (length list)) x y
 
 pub record Changed (bytes new list : List ℕ) (answer : Mending) (bytes' list' : List ℕ) : Type 0 where
-  pub answered : answer ≡ changed_or bytes new list (Mended (length (changes bytes new))) NoRoom
+  pub answered : answer ≡ changed_or bytes new list (Ok (length (changes bytes new))) (Err NoRoom)
   pub becomes : bytes' ≡ changed_or bytes new list new bytes
   pub listed : list' ≡ changed_or bytes new list (change_words (changes bytes new) ++ drop (length (change_words (changes bytes new))) list) list
 
--- a count is within a limit
+-- 18 and 23: the refusals of mending
+pub data Unmendable : Refusal → Type 0 where
+  is_18 : Unmendable NoRoom
+  is_23 : Unmendable WrongDataSize
+
+-- a count is within a limit, and a refusal 18 or 23
 abbrev pub MendedWithin : ℕ → Mending → Type 0
-MendedWithin limit (Mended count) = count ≤ limit
-MendedWithin limit WrongSize = Unit {0}
-MendedWithin limit NoRoom = Unit {0}
+MendedWithin limit (Ok count) = count ≤ limit
+MendedWithin limit (Err refusal) = Unmendable refusal

@@ -1,14 +1,17 @@
 // One channel: its cursor, what one command does to it, and reading until a note.
-ghost use Rattle.std.specs.Prelude.{◌+◌, ◌<◌, ◌≡◌, length, get_or, take};
+ghost use Rattle.std.specs.Prelude.{◌+◌, ◌<◌, ◌≡◌, Ok, Err, length, get_or, take, MatchResult};
 ghost use Rattle.engine_base.specs.Address.{address_of};
 ghost use Rattle.engine_base.specs.Told.{Answers};
 ghost use Rattle.metroid_format.specs.Command.{data_limit};
-ghost use Rattle.metroid_format.specs.Channel.{source_of, length_fault, address_at, loop_end, played_at, step_of, read_until, told_until, Limited};
+ghost use Rattle.metroid_format.specs.Channel.{source_of, channel_source, length_fault, length_at, address_at, loop_end, played_at, step_of, read_until, told_until, Limited};
+ghost use Rattle.metroid_format.specs.declared.channel.Played.TheVariants.{Refused};
 
 use crate::command::{DATA_LIMIT, Kind, Rule};
+use crate::header::{Track, Voice};
 use crate::{bank, command};
+use engine_base::refusal::Refusal;
 use engine_base::time::Frames;
-use engine_base::{address, bytes, loops, refusal};
+use engine_base::{address, bytes, loops};
 
 // More commands than reading until a note can take.
 const FUEL: u32 = (DATA_LIMIT / 2 * 257 + 2) as u32;
@@ -23,7 +26,31 @@ pub struct Cursor {
     pub length: Frames,
 }
 
+// What stays the same while a channel is read: its data, which stand at offset base of the bank, the length table and the window.
+#[derive(Clone, Copy)]
+pub struct Source<'a> {
+    pub kind: Kind,
+    pub bytes: &'a [u8],
+    pub lengths: &'a [u8],
+    pub window: u8,
+    pub base: u16,
+}
+
+// The source of a channel, in its part of the bank.
+pub fn source_at(bank: &[u8], track: Track, voice: Voice) -> Source
+    ensures { source_of result.kind result.bytes.now result.lengths.now result.window (address_of result.base) ≡ channel_source bank.now track voice }
+{
+    Source {
+        kind: voice.kind,
+        bytes: bytes::part(bank, usize::from(voice.data), DATA_LIMIT),
+        lengths: bytes::part(bank, track.lengths, bank::LENGTHS_SIZE),
+        window: track.window,
+        base: voice.data,
+    }
+}
+
 // What a command does before loops are considered, with the offset after it.
+// No Result of the other cases: the definitions and laws go by all of them side by side.
 #[derive(Clone, Copy)]
 pub enum Played {
     End,
@@ -34,23 +61,25 @@ pub enum Played {
     Length(u8, Frames, u16),
     // the sounding byte, at the current length
     Note(u8, u16),
-    // the number of the refusal, the offset of the byte and its address
-    Refused(u32, u16, u32),
+    // the refusal, the offset of the byte and its address
+    Refused(Refusal, u16, u32),
 }
 
+// No Result of the other cases: the definitions and laws go by all of them side by side.
 #[derive(Clone, Copy)]
 pub enum Step {
     Again(Cursor),
     Note(u8, Cursor),
     End,
-    Refused(u32, u16, u32),
+    Refused(Refusal, u16, u32),
 }
 
+// No Result of the other cases: the definitions and laws go by all of them side by side.
 #[derive(Clone, Copy)]
 pub enum Stop {
     Note(u8),
     End,
-    Refused(u32, u16, u32),
+    Refused(Refusal, u16, u32),
 }
 
 // Where reading stopped, the commands read, and the cursor: after a note, else at the stopping command.
@@ -61,19 +90,22 @@ pub struct Until {
     pub cursor: Cursor,
 }
 
-// 12 or 13 of BL, 0 where it gives a length.
-fn length_fault(lengths: &[u8], window: u8, l: u8) -> u32
+// The length of BL, or 12 or 13.
+#[tactic(auto, unfolding(crate::specs::Channel::length_fault))]
+fn length_of(lengths: &[u8], window: u8, l: u8) -> Result<u8, Refusal>
     requires { l < 16 }
-    ensures { result ≡ length_fault lengths.now window (0xb0 + l) }
+    ensures { MatchResult result
+        (λ count. (length_fault lengths.now window (0xb0 + l) ≡ Ok tt) × (count ≡ length_at lengths.now window l))
+        (λ refusal. length_fault lengths.now window (0xb0 + l) ≡ Err refusal) }
 {
     let entry = window as usize + l as usize;
     if bank::LENGTHS_SIZE <= entry {
-        return refusal::PAST_LENGTHS;
+        return Err(Refusal::PastLengths);
     }
-    if bytes::byte(lengths, entry) == 0 {
-        return refusal::ZERO_LENGTH;
+    match bytes::byte(lengths, entry) {
+        0 => Err(Refusal::ZeroLength),
+        count => Ok(count),
     }
-    0
 }
 
 // The address of the byte at an offset of data that stand at offset base of the bank.
@@ -83,157 +115,126 @@ pub(crate) fn address_at(base: u16, at: u16) -> u32
     address::BANK_START as u32 + base as u32 + at as u32
 }
 
-// What the BL at an offset does: it tests 12, 13, then its next byte 15, 11.
-fn length_played(
-    kind: Kind,
-    bytes: &[u8],
-    lengths: &[u8],
-    window: u8,
-    base: u16,
-    at: u16,
-    l: u8,
-) -> Played
-    requires { Limited bytes.now × (at < length bytes.now) × (l < 16) × (get_or bytes.now at 0 ≡ 0xb0 + l) }
-    ensures { (current : Frames) → result ≡
-        played_at (source_of kind bytes.now lengths.now window (address_of base)) at current }
+// A refusal of the byte at an offset.
+fn refused(source: Source, refusal: Refusal, at: u16) -> Played
+    ensures { result ≡ Refused refusal at (address_at (address_of source.entry.base) at) }
 {
-    let fault = length_fault(lengths, window, l);
-    if fault != 0 {
-        return Played::Refused(fault, at, address_at(base, at));
-    }
+    Played::Refused(refusal, at, address_at(source.base, at))
+}
+
+// What the BL at an offset does: it tests 12, 13, then its next byte 15, 11.
+fn length_played(source: Source, at: u16, l: u8) -> Played
+    requires { Limited source.bytes.now × (at < length source.bytes.now) × (l < 16) × (get_or source.bytes.now at 0 ≡ 0xb0 + l) }
+    ensures { (current : Frames) → result ≡ played_at (source_of source.entry.kind source.entry.bytes.now source.entry.lengths.now source.entry.window (address_of source.entry.base)) at current }
+{
+    let count = match length_of(source.lengths, source.window, l) {
+        Ok(count) => count,
+        Err(refusal) => return refused(source, refusal, at),
+    };
     let next = at + 1;
-    let unfit = command::note_fault(kind, bytes, next as usize);
-    if unfit != 0 {
-        return Played::Refused(unfit, next, address_at(base, next));
+    match command::note_at(source.kind, source.bytes, next as usize) {
+        Ok(note) => Played::Length(note, Frames { count }, next + 1),
+        Err(refusal) => refused(source, refusal, next),
     }
-    let note = bytes::byte(bytes, next as usize);
-    let count = bytes::byte(lengths, window as usize + l as usize);
-    Played::Length(note, Frames { count }, next + 1)
 }
 
 // What the command at an offset does; a lone note tests 11, then 14.
-pub(crate) fn played_at(
-    kind: Kind,
-    bytes: &[u8],
-    lengths: &[u8],
-    window: u8,
-    base: u16,
-    at: u16,
-    length: Frames,
-) -> Played
-    requires { Limited bytes.now }
-    ensures { result ≡
-        played_at (source_of kind bytes.now lengths.now window (address_of base)) at length }
+pub(crate) fn played_at(source: Source, at: u16, length: Frames) -> Played
+    requires { Limited source.bytes.now }
+    ensures { result ≡ played_at (source_of source.entry.kind source.entry.bytes.now source.entry.lengths.now source.entry.window (address_of source.entry.base)) at length }
 {
-    match command::rule_at(kind, bytes, at as usize) {
-        Rule::End => Played::End,
-        Rule::EndLoop => Played::EndLoop(at + 1),
-        Rule::BeginLoop(n) => Played::BeginLoop(loops::counter_of(n), at + 1),
-        Rule::Length(l) => length_played(kind, bytes, lengths, window, base, at, l),
-        Rule::Note(b) => {
-            if length.count == 0 {
-                Played::Refused(refusal::NO_LENGTH, at, address_at(base, at))
-            } else {
-                Played::Note(b, at + 1)
-            }
-        }
-        Rule::Invalid(number) => Played::Refused(number, at, address_at(base, at)),
+    match command::rule_at(source.kind, source.bytes, at as usize) {
+        Ok(Rule::End) => Played::End,
+        Ok(Rule::EndLoop) => Played::EndLoop(at + 1),
+        Ok(Rule::BeginLoop(n)) => Played::BeginLoop(loops::counter_of(n), at + 1),
+        Ok(Rule::Length(l)) => length_played(source, at, l),
+        Ok(Rule::Note(_)) if length.count == 0 => refused(source, Refusal::NoLength, at),
+        Ok(Rule::Note(b)) => Played::Note(b, at + 1),
+        Err(refusal) => refused(source, refusal, at),
     }
 }
 
-fn loop_end(mut cursor: Cursor, next: u16) -> Cursor
+fn loop_end(cursor: Cursor, next: u16) -> Cursor
     ensures { result ≡ loop_end cursor next }
 {
     if cursor.counter == 0 {
-        cursor.next = next;
-        return cursor;
+        return Cursor { next, ..cursor };
     }
-    cursor.next = cursor.loop_start;
-    cursor.counter -= 1;
-    cursor
+    Cursor {
+        next: cursor.loop_start,
+        counter: cursor.counter - 1,
+        ..cursor
+    }
 }
 
 // One command from a cursor.
-fn step_from(
-    kind: Kind,
-    bytes: &[u8],
-    lengths: &[u8],
-    window: u8,
-    base: u16,
-    mut cursor: Cursor,
-) -> Step
-    requires { Limited bytes.now }
-    ensures { result ≡
-        step_of (source_of kind bytes.now lengths.now window (address_of base)) cursor }
+#[tactic(auto, unfolding(crate::specs::Channel::step_of))]
+fn step_from(source: Source, cursor: Cursor) -> Step
+    requires { Limited source.bytes.now }
+    ensures { result ≡ step_of (source_of source.entry.kind source.entry.bytes.now source.entry.lengths.now source.entry.window (address_of source.entry.base)) cursor }
 {
-    let at = cursor.next;
-    let length = cursor.length;
-    let played = played_at(kind, bytes, lengths, window, base, at, length);
-    match played {
+    match played_at(source, cursor.next, cursor.length) {
         Played::End => Step::End,
         Played::EndLoop(next) => Step::Again(loop_end(cursor, next)),
-        Played::BeginLoop(counter, next) => {
-            cursor.next = next;
-            cursor.loop_start = next;
-            cursor.counter = counter;
-            Step::Again(cursor)
-        }
-        Played::Length(b, length, next) => {
-            cursor.next = next;
-            cursor.length = length;
-            Step::Note(b, cursor)
-        }
-        Played::Note(b, next) => {
-            cursor.next = next;
-            Step::Note(b, cursor)
-        }
-        Played::Refused(number, place, address) => Step::Refused(number, place, address),
+        Played::BeginLoop(counter, next) => Step::Again(Cursor {
+            next,
+            loop_start: next,
+            counter,
+            ..cursor
+        }),
+        Played::Length(b, length, next) => Step::Note(
+            b,
+            Cursor {
+                next,
+                length,
+                ..cursor
+            },
+        ),
+        Played::Note(b, next) => Step::Note(b, Cursor { next, ..cursor }),
+        Played::Refused(refusal, at, address) => Step::Refused(refusal, at, address),
     }
 }
 
-fn stopped(stop: Stop, count: u32, cursor: Cursor) -> Until
-    ensures { result ≡ record { stop = stop; count = count; cursor = cursor } }
-{
-    Until {
-        stop,
-        count,
-        cursor,
-    }
-}
-
-// Commands until a note, the end or a fault, of data that stand at offset base of the bank.
-pub fn read_until(
-    kind: Kind,
-    bytes: &[u8],
-    lengths: &[u8],
-    window: u8,
-    base: u16,
-    start: Cursor,
-) -> Until
+// Commands until a note, the end or a fault; data longer than the limit is read up to it.
+pub fn read_until(source: Source, start: Cursor) -> Until
     ensures { Answers told_until result
-        (read_until data_limit (source_of kind (take data_limit bytes.now) lengths.now window (address_of base)) start) }
+        (read_until data_limit (source_of source.entry.kind (take data_limit source.entry.bytes.now) source.entry.lengths.now source.entry.window (address_of source.entry.base)) start) }
 {
-    let data = bytes::part(bytes, 0, DATA_LIMIT);
+    let source = Source {
+        bytes: bytes::part(source.bytes, 0, DATA_LIMIT),
+        ..source
+    };
     let mut cursor = start;
-    let mut count: u32 = 0;
-    while count < FUEL {
-        let step = step_from(kind, data, lengths, window, base, cursor);
-        match step {
-            Step::Again(after) => {
-                cursor = after;
-                count += 1;
+    for count in 0..FUEL {
+        match step_from(source, cursor) {
+            Step::Again(after) => cursor = after,
+            Step::Note(b, after) => {
+                return Until {
+                    stop: Stop::Note(b),
+                    count: count + 1,
+                    cursor: after,
+                };
             }
-            Step::Note(b, after) => return stopped(Stop::Note(b), count + 1, after),
-            Step::End => return stopped(Stop::End, count + 1, cursor),
-            Step::Refused(number, at, address) => {
-                return stopped(Stop::Refused(number, at, address), count, cursor)
+            Step::End => {
+                return Until {
+                    stop: Stop::End,
+                    count: count + 1,
+                    cursor,
+                };
+            }
+            Step::Refused(refusal, at, address) => {
+                return Until {
+                    stop: Stop::Refused(refusal, at, address),
+                    count,
+                    cursor,
+                };
             }
         }
     }
     let at = cursor.next;
-    stopped(
-        Stop::Refused(refusal::PAST_DATA, at, address_at(base, at)),
-        count,
+    Until {
+        stop: Stop::Refused(Refusal::PastData, at, address_at(source.base, at)),
+        count: FUEL,
         cursor,
-    )
+    }
 }

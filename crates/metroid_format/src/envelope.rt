@@ -5,6 +5,7 @@ ghost use Rattle.engine_base.specs.Envelope.{envelope_address, envelope_ends};
 use engine_base::{address, bytes, envelope};
 
 // The address of envelope 1 to 5.
+#[tactic(auto, unfolding(engine_base::specs::Envelope::envelope_address))]
 pub(crate) fn address_of(bank: &[u8], table: u32, number: u8) -> u16
     requires { 0 < number }
     ensures { result ≡ envelope_address bank.now table number }
@@ -14,15 +15,14 @@ pub(crate) fn address_of(bank: &[u8], table: u32, number: u8) -> u16
 }
 
 // Whether envelope 0 to 5 ends within its reach; 0 is none.
+#[tactic(auto, unfolding(engine_base::specs::Envelope::envelope_ends))]
 pub(crate) fn ends(bank: &[u8], table: u32, number: u8) -> bool
     ensures { result ≡ envelope_ends bank.now table number }
 {
     if number == 0 {
         return true;
     }
-    let address = address_of(bank, table, number);
-    if !address::fits(address as usize, 1) {
-        return false;
-    }
-    envelope::shows_end(bytes::part(bank, address::offset_of(address as usize), envelope::REACH))
+    let address = address_of(bank, table, number) as usize;
+    address::fits(address, 1)
+        && envelope::shows_end(bytes::part(bank, address::offset_of(address), envelope::REACH))
 }

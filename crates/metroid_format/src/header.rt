@@ -1,7 +1,6 @@
 // A track's header, and what is refused of a bank, its places and a header.
-ghost use Rattle.std.specs.Prelude.{◌≡◌, take, drop};
+ghost use Rattle.std.specs.Prelude.{◌≡◌, None, take, drop};
 ghost use Rattle.engine_base.specs.Address.{offset_of};
-ghost use Rattle.engine_base.specs.Bytes.{word_at};
 ghost use Rattle.metroid_format.specs.Header.{
   tables_fit,
   places_fit,
@@ -11,16 +10,15 @@ ghost use Rattle.metroid_format.specs.Header.{
   envelope_numbers_fit,
   square_ends,
   squares_end,
+  addresses,
   address_fits,
   addresses_fit,
   all_unused,
   header_number,
-  unused_voice,
+  header_of,
   voice_of,
   voices_of,
   track_of,
-  refused_track,
-  opened,
   open_track,
   told_opened,
 };
@@ -29,22 +27,21 @@ ghost use Rattle.engine_base.specs.Told.{Answers};
 use crate::bank::Places;
 use crate::command::Kind;
 use crate::{bank, envelope};
-use engine_base::{address, bytes, refusal};
+use engine_base::refusal::Refusal;
+use engine_base::{address, bytes};
 
 const HEADER_SIZE: usize = 13;
 
 const LAST_ENVELOPE: u8 = 5;
 
-// A channel as the header has it, with offsets in the bank. An unused one has nothing but its kind.
+// A used channel as the header has it, with offsets in the bank.
 #[derive(Clone, Copy)]
 pub struct Voice {
-    pub used: bool,
     pub kind: Kind,
-    pub has_envelope: bool,
     // ctrl 1 of a square
     pub default: u8,
     pub data: u16,
-    pub envelope: u16,
+    pub envelope: Option<u16>,
 }
 
 // A header, and the offsets of the tables in the bank.
@@ -58,51 +55,32 @@ pub struct Track {
     pub periods: usize,
     pub presets: usize,
     // square 1, square 2, triangle, noise
-    pub voices: [Voice; 4],
-}
-
-#[derive(Clone, Copy)]
-pub struct Opened {
-    // 0, or that of the refusal
-    pub number: u32,
-    // blank if refused
-    pub track: Track,
+    pub voices: [Option<Voice>; 4],
 }
 
 // The tables that all tracks share.
+#[tactic(auto, unfolding(crate::specs::Header::tables_fit))]
 fn tables_fit(p: Places) -> bool
     ensures { result ≡ tables_fit p }
 {
-    if !address::fits(p.note_lengths as usize, bank::LENGTHS_SIZE) {
-        return false;
-    }
-    if !address::fits(p.key_periods as usize, bank::PERIODS_SIZE) {
-        return false;
-    }
-    if !address::fits(p.noise_presets as usize, bank::PRESETS_SIZE) {
-        return false;
-    }
-    address::fits(p.envelope_addresses as usize, bank::ENVELOPES_SIZE)
+    address::fits(p.note_lengths as usize, bank::LENGTHS_SIZE)
+        && address::fits(p.key_periods as usize, bank::PERIODS_SIZE)
+        && address::fits(p.noise_presets as usize, bank::PRESETS_SIZE)
+        && address::fits(p.envelope_addresses as usize, bank::ENVELOPES_SIZE)
 }
 
+#[tactic(auto, unfolding(crate::specs::Header::places_fit))]
 fn places_fit(p: Places) -> bool
     ensures { result ≡ places_fit p }
 {
-    if p.track_count < 1 {
-        return false;
-    }
-    if 255 < p.track_count {
-        return false;
-    }
-    if !address::fits(p.header_offsets as usize, p.track_count as usize) {
-        return false;
-    }
-    if !address::fits(p.header_block as usize, 1) {
-        return false;
-    }
-    tables_fit(p)
+    1 <= p.track_count
+        && p.track_count <= 255
+        && address::fits(p.header_offsets as usize, p.track_count as usize)
+        && address::fits(p.header_block as usize, 1)
+        && tables_fit(p)
 }
 
+#[tactic(auto, unfolding(crate::specs::Header::header_address))]
 fn header_address(bank: &[u8], places: Places, track: u32) -> usize
     ensures { result ≡ header_address bank.now places track }
 {
@@ -118,113 +96,87 @@ fn header_at(bank: &[u8], address: usize) -> &[u8]
 }
 
 // The top three bits of +0 are 0.
+#[tactic(auto, unfolding(crate::specs::Header::window_fits))]
 fn window_fits(header: &[u8]) -> bool
     ensures { result ≡ window_fits header.now }
 {
     bytes::byte(header, 0) >> 5 == 0
 }
 
+#[tactic(auto, unfolding(crate::specs::Header::envelope_numbers_fit))]
 fn envelope_numbers_fit(header: &[u8]) -> bool
     ensures { result ≡ envelope_numbers_fit header.now }
 {
-    if LAST_ENVELOPE < bytes::byte(header, 3) {
-        return false;
-    }
-    bytes::byte(header, 4) <= LAST_ENVELOPE
+    bytes::byte(header, 3) <= LAST_ENVELOPE && bytes::byte(header, 4) <= LAST_ENVELOPE
 }
 
 // The envelope of a square by its number and the square's address.
+#[tactic(auto, unfolding(crate::specs::Header::square_ends))]
 fn square_ends(bank: &[u8], table: u32, number: u8, address: u16) -> bool
     ensures { result ≡ square_ends bank.now table number address }
 {
-    if address == 0 {
-        return true;
-    }
-    envelope::ends(bank, table, number)
+    address == 0 || envelope::ends(bank, table, number)
 }
 
+#[tactic(auto, unfolding(crate::specs::Header::squares_end))]
 fn squares_end(bank: &[u8], table: u32, header: &[u8]) -> bool
     ensures { result ≡ squares_end bank.now table header.now }
 {
-    if !square_ends(bank, table, bytes::byte(header, 3), bytes::word(header, 5)) {
-        return false;
-    }
-    square_ends(bank, table, bytes::byte(header, 4), bytes::word(header, 7))
+    square_ends(bank, table, bytes::byte(header, 3), bytes::word(header, 5))
+        && square_ends(bank, table, bytes::byte(header, 4), bytes::word(header, 7))
 }
 
-fn address_fits(header: &[u8], at: usize) -> bool
-    ensures { result ≡ address_fits (word_at header.now at) }
+// The channels' addresses of a header.
+fn addresses_at(header: &[u8]) -> [u16; 4]
+    ensures { result ≡ addresses header.now }
 {
-    let address = bytes::word(header, at);
-    if address == 0 {
-        return true;
-    }
-    address::fits(address as usize, 1)
+    [5usize, 7, 9, 11].map(|at| bytes::word(header, at))
 }
 
+#[tactic(auto, unfolding(crate::specs::Header::address_fits))]
+fn address_fits(address: u16) -> bool
+    ensures { result ≡ address_fits address }
+{
+    address == 0 || address::fits(usize::from(address), 1)
+}
+
+#[tactic(auto, unfolding(crate::specs::Header::addresses_fit))]
 fn addresses_fit(header: &[u8]) -> bool
     ensures { result ≡ addresses_fit header.now }
 {
-    if !address_fits(header, 5) {
-        return false;
-    }
-    if !address_fits(header, 7) {
-        return false;
-    }
-    if !address_fits(header, 9) {
-        return false;
-    }
-    address_fits(header, 11)
+    addresses_at(header)
+        .iter()
+        .all(|address| address_fits(*address))
 }
 
+#[tactic(auto, unfolding(crate::specs::Header::all_unused))]
 fn all_unused(header: &[u8]) -> bool
     ensures { result ≡ all_unused header.now }
 {
-    if bytes::word(header, 5) != 0 {
-        return false;
-    }
-    if bytes::word(header, 7) != 0 {
-        return false;
-    }
-    if bytes::word(header, 9) != 0 {
-        return false;
-    }
-    bytes::word(header, 11) == 0
+    addresses_at(header).iter().all(|address| *address == 0)
 }
 
-// The first number of 5 to 9, or 0.
-fn header_number(bank: &[u8], table: u32, header: &[u8]) -> u32
+// The first refusal of 5 to 9 that a header shows.
+#[tactic(auto, unfolding(crate::specs::Header::header_number))]
+fn check_header(bank: &[u8], table: u32, header: &[u8]) -> Result<(), Refusal>
     ensures { result ≡ header_number bank.now table header.now }
 {
     if !window_fits(header) {
-        return refusal::WINDOW_TOO_HIGH;
+        return Err(Refusal::WindowTooHigh);
     }
     if !envelope_numbers_fit(header) {
-        return refusal::ENVELOPE_TOO_HIGH;
+        return Err(Refusal::EnvelopeTooHigh);
     }
     if !squares_end(bank, table, header) {
-        return refusal::NO_ENVELOPE_END;
+        return Err(Refusal::NoEnvelopeEnd);
     }
     if !addresses_fit(header) {
-        return refusal::CHANNEL_OUTSIDE;
+        return Err(Refusal::ChannelOutside);
     }
     if all_unused(header) {
-        return refusal::NO_CHANNEL;
+        return Err(Refusal::NoChannel);
     }
-    0
-}
-
-fn unused(kind: Kind) -> Voice
-    ensures { result ≡ unused_voice kind }
-{
-    Voice {
-        used: false,
-        kind,
-        data: 0,
-        has_envelope: false,
-        envelope: 0,
-        default: 0,
-    }
+    Ok(())
 }
 
 fn offset_word(address: u16) -> u16
@@ -234,35 +186,35 @@ fn offset_word(address: u16) -> u16
 }
 
 // A channel by its address, its envelope number (0 for none) and its default ctrl 1 byte.
-fn voice_of(bank: &[u8], table: u32, kind: Kind, address: u16, number: u8, default: u8) -> Voice
+#[tactic(auto, unfolding(crate::specs::Header::voice_of))]
+fn voice_of(
+    bank: &[u8],
+    table: u32,
+    kind: Kind,
+    address: u16,
+    number: u8,
+    default: u8,
+) -> Option<Voice>
     ensures { result ≡ voice_of bank.now table kind address number default }
 {
     if address == 0 {
-        return unused(kind);
+        return None;
     }
-    let data = offset_word(address);
-    if number == 0 {
-        return Voice {
-            used: true,
-            kind,
-            data,
-            has_envelope: false,
-            envelope: 0,
-            default,
-        };
-    }
-    let envelope = offset_word(envelope::address_of(bank, table, number));
-    Voice {
-        used: true,
+    let envelope = if number == 0 {
+        None
+    } else {
+        Some(offset_word(envelope::address_of(bank, table, number)))
+    };
+    Some(Voice {
         kind,
-        data,
-        has_envelope: true,
-        envelope,
         default,
-    }
+        data: offset_word(address),
+        envelope,
+    })
 }
 
-fn voices_of(bank: &[u8], places: Places, header: &[u8]) -> [Voice; 4]
+#[tactic(auto, unfolding(crate::specs::Header::voices_of))]
+fn voices_of(bank: &[u8], places: Places, header: &[u8]) -> [Option<Voice>; 4]
     ensures { result ≡ voices_of bank.now places header.now }
 {
     let table = places.envelope_addresses;
@@ -287,6 +239,7 @@ fn voices_of(bank: &[u8], places: Places, header: &[u8]) -> [Voice; 4]
     [square1, square2, triangle, noise]
 }
 
+#[tactic(auto, unfolding(crate::specs::Header::track_of))]
 fn track_of(bank: &[u8], places: Places, header: &[u8]) -> Track
     ensures { result ≡ track_of bank.now places header.now }
 {
@@ -302,50 +255,25 @@ fn track_of(bank: &[u8], places: Places, header: &[u8]) -> Track
     }
 }
 
-fn refused(number: u32) -> Opened
-    ensures { result ≡ refused_track number }
-{
-    let voice = unused(Kind::Melodic);
-    let track = Track {
-        window: 0,
-        restart: false,
-        release: 0,
-        lengths: 0,
-        periods: 0,
-        presets: 0,
-        voices: [voice; 4],
-    };
-    Opened { number, track }
-}
-
-// The track of a header, or the first number of 5 to 9.
-fn open_header(bank: &[u8], places: Places, header: &[u8]) -> Opened
-    ensures { result ≡ opened (header_number bank.now places.envelope_addresses header.now) (track_of bank.now places header.now) }
-{
-    let number = header_number(bank, places.envelope_addresses, header);
-    if number != 0 {
-        return refused(number);
-    }
-    let track = track_of(bank, places, header);
-    Opened { number, track }
-}
-
-// A track of a bank, or the first number of 1 to 9.
-pub fn open(bank: &[u8], places: Places, track: u32) -> Opened
+// A track of a bank, or the first refusal of 1 to 9.
+#[tactic(auto, unfolding(crate::specs::Header::open_track, crate::specs::Header::number_of, crate::specs::Header::header_of))]
+pub fn open(bank: &[u8], places: Places, track: u32) -> Result<Track, Refusal>
     ensures { Answers told_opened result (open_track bank.now places track) }
 {
     if bank.len() != bank::BANK_SIZE {
-        return refused(refusal::WRONG_SIZE);
+        return Err(Refusal::WrongSize);
     }
     if !places_fit(places) {
-        return refused(refusal::TABLE_OUTSIDE);
+        return Err(Refusal::TableOutside);
     }
     if places.track_count <= track {
-        return refused(refusal::NO_TRACK);
+        return Err(Refusal::NoTrack);
     }
     let address = header_address(bank, places, track);
     if !address::fits(address, HEADER_SIZE) {
-        return refused(refusal::HEADER_OUTSIDE);
+        return Err(Refusal::HeaderOutside);
     }
-    open_header(bank, places, header_at(bank, address))
+    let header = header_at(bank, address);
+    check_header(bank, places.envelope_addresses, header)?;
+    Ok(track_of(bank, places, header))
 }

@@ -1,27 +1,15 @@
 // Mending: one channel's data changed so that it reads, and the list of what was changed.
-ghost use Rattle.std.specs.Prelude.{ℕ, suc, ◌≤◌, ◌<◌, ◌≡◌, length, take};
+ghost use Rattle.std.specs.Prelude.{ℕ, suc, ◌≤◌, ◌<◌, ◌≡◌, length, take, MatchOption};
 ghost use Rattle.metroid_format.specs.Command.{data_limit};
 ghost use Rattle.metroid_format.specs.Mend.{rest_of, closed, mended_from, mended, Passes, change_at, changes, Lists, Changed, Mends};
 
 use crate::command;
-use crate::command::{DATA_LIMIT, Decoded, Kind};
-use engine_base::{buffer, bytes, refusal};
+use crate::command::{DATA_LIMIT, Kind};
+use engine_base::refusal::Refusal;
+use engine_base::{buffer, bytes};
 
-#[derive(Clone, Copy)]
-pub enum Mending {
-    // how many bytes were changed
-    Mended(usize),
-    WrongSize,
-    NoRoom,
-}
-
-// How reading goes on behind a command.
-#[derive(Clone, Copy)]
-enum Passing {
-    End,
-    // the offset after it
-    On(usize),
-}
+// How many bytes were changed, or 18 or 23.
+pub type Mending = Result<usize, Refusal>;
 
 // The words of a change: offset, old byte, new byte.
 const CHANGE_WORDS: usize = 3;
@@ -36,6 +24,7 @@ fn rest_of(kind: Kind) -> u8
 }
 
 // With no end met, and the last command at an offset.
+#[tactic(auto, unfolding(crate::specs::Mend::closed))]
 fn close(kind: Kind, bytes: &mut [u8], at: usize)
     requires { at < length bytes.old }
     ensures { bytes.new ≡ closed kind at bytes.old }
@@ -48,27 +37,20 @@ fn close(kind: Kind, bytes: &mut [u8], at: usize)
     bytes[at] = rest_of(kind);
 }
 
-// The command at an offset: a byte that is refused becomes the rest.
-fn mend_command(kind: Kind, bytes: &mut [u8], at: usize) -> Passing
+// The command at an offset, where a byte that is refused becomes the rest: where reading goes on, if it is no end.
+fn mend_command(kind: Kind, bytes: &mut [u8], at: usize) -> Option<usize>
     requires { at < length bytes.old }
-    ensures { elim result as (λ _. Type 0) [
-      | Passing.End ↦ (bytes.new ≡ bytes.old) × ((left : ℕ) → mended_from kind (suc left) at bytes.old ≡ bytes.old)
-      | Passing.On next ↦ Passes kind at bytes.old next bytes.new
-    ] }
+    ensures { MatchOption result
+        ((bytes.new ≡ bytes.old) × ((left : ℕ) → mended_from kind (suc left) at bytes.old ≡ bytes.old))
+        (λ next. Passes kind at bytes.old next bytes.new) }
 {
     match command::command_at(kind, bytes, at) {
-        Decoded::Found(command, next) => {
-            if command::is_end(command) {
-                return Passing::End;
-            }
-            Passing::On(next)
-        }
-        Decoded::Refused(number, offset) => {
-            if number == refusal::PAST_DATA {
-                return Passing::On(offset);
-            }
+        Ok((command, _)) if command::is_end(command) => None,
+        Ok((_, next)) => Some(next),
+        Err((refusal, offset)) if refusal == Refusal::PastData => Some(offset),
+        Err((_, offset)) => {
             bytes[offset] = rest_of(kind);
-            Passing::On(offset + 1)
+            Some(offset + 1)
         }
     }
 }
@@ -77,18 +59,17 @@ fn mend_command(kind: Kind, bytes: &mut [u8], at: usize) -> Passing
 fn mend_data(kind: Kind, bytes: &mut [u8])
     ensures { bytes.new ≡ mended kind bytes.old }
 {
-    let mut at: usize = 0;
-    while at < bytes.len() {
-        match mend_command(kind, bytes, at) {
-            Passing::End => return,
-            Passing::On(next) => {
-                if bytes.len() <= next {
-                    close(kind, bytes, at);
-                    return;
-                }
-                at = next;
-            }
+    let mut at = 0;
+    // a command has a byte at least
+    for _ in 0..bytes.len() {
+        let Some(next) = mend_command(kind, bytes, at) else {
+            return;
+        };
+        if bytes.len() <= next {
+            close(kind, bytes, at);
+            return;
         }
+        at = next;
     }
 }
 
@@ -98,17 +79,12 @@ fn mend_copy(kind: Kind, bytes: &[u8], copy: &mut [u8])
     ensures { take (length bytes.now) copy.new ≡ mended kind bytes.now }
 {
     let size = bytes.len();
-    buffer::fill8(copy, 0, bytes);
+    buffer::fill(copy, 0, bytes);
     mend_data(kind, &mut copy[..size]);
 }
 
-fn word_of(b: u8) -> u16
-    ensures { result ≡ b }
-{
-    b as u16
-}
-
 // A byte of the data behind n changes: how many there are with it. Words are written as far as they fit.
+#[tactic(auto, unfolding(crate::specs::Mend::change_words))]
 fn list_change(list: &mut [u16], n: usize, at: usize, old: u8, new: u8) -> usize
     requires { (n ≤ at) × (at < data_limit) }
     ensures { Lists n (change_at at old new) list.old result list.new }
@@ -117,9 +93,9 @@ fn list_change(list: &mut [u16], n: usize, at: usize, old: u8, new: u8) -> usize
         return n;
     }
     let first = n * CHANGE_WORDS;
-    buffer::put16(list, first, at as u16);
-    buffer::put16(list, first + 1, word_of(old));
-    buffer::put16(list, first + 2, word_of(new));
+    buffer::put(list, first, at as u16);
+    buffer::put(list, first + 1, u16::from(old));
+    buffer::put(list, first + 2, u16::from(new));
     n + 1
 }
 
@@ -128,11 +104,10 @@ fn list_changes(before: &[u8], after: &[u8], list: &mut [u16]) -> usize
     requires { (length before.now ≤ data_limit) × (length after.now ≡ length before.now) }
     ensures { Lists 0 (changes before.now after.now) list.old result list.new }
 {
-    let mut i: usize = 0;
-    let mut n: usize = 0;
-    while i < before.len() {
-        n = list_change(list, n, i, before[i], after[i]);
-        i += 1;
+    let mut n = 0;
+    // `zip` was tried: the proof did not close, since its iterator must be told to stand at i of both lists
+    for (i, old) in before.iter().enumerate() {
+        n = list_change(list, n, i, *old, after[i]);
     }
     n
 }
@@ -146,11 +121,11 @@ fn change(bytes: &mut [u8], new: &[u8], list: &mut [u16]) -> Mending
     // no word fits: the changes are counted alone
     let count = list_changes(bytes, new, &mut list[..0]);
     if room < count * CHANGE_WORDS {
-        return Mending::NoRoom;
+        return Err(Refusal::NoRoom);
     }
     list_changes(bytes, new, list);
-    buffer::fill8(bytes, 0, new);
-    Mending::Mended(count)
+    buffer::fill(bytes, 0, new);
+    Ok(count)
 }
 
 // One channel's data, changed so that it reads, and three words a change.
@@ -158,11 +133,8 @@ pub fn mend(kind: Kind, bytes: &mut [u8], list: &mut [u16]) -> Mending
     ensures { Mends data_limit kind bytes.old list.old result bytes.new list.new }
 {
     let size = bytes.len();
-    if size == 0 {
-        return Mending::WrongSize;
-    }
-    if DATA_LIMIT < size {
-        return Mending::WrongSize;
+    if size == 0 || DATA_LIMIT < size {
+        return Err(Refusal::WrongDataSize);
     }
     let mut copy = [0u8; DATA_LIMIT];
     mend_copy(kind, bytes, &mut copy);

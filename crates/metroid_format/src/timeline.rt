@@ -7,20 +7,16 @@ ghost use Rattle.metroid_format.specs.Command.{data_limit};
 ghost use Rattle.metroid_format.specs.Channel.{source_of, channel_source, Limited};
 ghost use Rattle.metroid_format.specs.Timeline.{after_lone, passed_by, passed_of, timeline_of, stop_of, sooner, soonest_of, told_soonest, Small, Timed};
 
-use crate::channel::Played;
-use crate::command::{DATA_LIMIT, Kind};
+use crate::channel;
+use crate::channel::{Played, Source};
+use crate::command::DATA_LIMIT;
 use crate::header::{Track, Voice};
-use crate::{bank, channel};
+use engine_base::bytes;
+use engine_base::refusal::Refusal;
 use engine_base::time::Frames;
-use engine_base::{bytes, refusal};
 
-// How a channel by itself comes to a stop.
-#[derive(Clone, Copy)]
-pub enum Finish {
-    End,
-    // the number of the refusal, the offset of the byte and its address
-    Refused(u32, u16, u32),
-}
+// How a channel by itself comes to a stop: at its end, or at a refusal, with the offset of the byte and its address.
+pub type Finish = Result<(), (Refusal, u16, u32)>;
 
 #[derive(Clone, Copy)]
 pub struct Timeline {
@@ -42,18 +38,16 @@ struct Pass {
     pub frames: u32,
 }
 
-#[derive(Clone, Copy)]
-enum Passed {
-    On(Pass),
-    Finished(Finish),
-}
+// What a command makes of a pass: the pass goes on, or has come to a stop. A `Result` as the definition `Passed` has
+// it, which would have to change for a `ControlFlow`.
+type Passed = Result<Pass, Finish>;
 
-// The stop that comes first of those looked at.
+// The stop that comes first of those looked at: the frame, the channel and how it stops.
 #[derive(Clone, Copy)]
-pub enum Soonest {
-    Nothing,
-    // the frame, the channel and how it stops
-    Stop(u32, usize, Finish),
+pub struct Soonest {
+    pub frame: u32,
+    pub channel: usize,
+    pub finish: Finish,
 }
 
 // The frames of a loop's later plays.
@@ -65,73 +59,78 @@ fn later_plays(counter: u8, lead: u32, length: u8, rest: u32) -> u32
 }
 
 // A lone note counts to the lead as long as no BL stood in the body.
-fn after_lone(mut pass: Pass, next: u16) -> Pass
+fn after_lone(pass: Pass, next: u16) -> Pass
     requires { Small pass }
     ensures { result ≡ after_lone (eqb pass.rest 0) pass next }
 {
     let count = pass.length.count as u32;
-    pass.next = next;
-    pass.frames += count;
+    let frames = pass.frames + count;
     if pass.rest == 0 {
-        pass.lead += 1;
-        return pass;
+        return Pass {
+            next,
+            lead: pass.lead + 1,
+            frames,
+            ..pass
+        };
     }
-    pass.rest += count;
-    pass
+    Pass {
+        next,
+        rest: pass.rest + count,
+        frames,
+        ..pass
+    }
 }
 
-fn passed_by(mut pass: Pass, played: Played) -> Passed
+// `Small` is one definition that three private clauses name: a type of its own would carry the same proof along.
+fn passed_by(pass: Pass, played: Played) -> Passed
     requires { Small pass }
     ensures { result ≡ passed_by pass played }
 {
     match played {
-        Played::End => Passed::Finished(Finish::End),
-        Played::EndLoop(next) => {
-            let later = later_plays(pass.counter, pass.lead, pass.length.count, pass.rest);
-            pass.next = next;
-            pass.counter = 0;
-            pass.frames += later;
-            Passed::On(pass)
-        }
-        Played::BeginLoop(counter, next) => {
-            pass.next = next;
-            pass.counter = counter;
-            pass.lead = 0;
-            pass.rest = 0;
-            Passed::On(pass)
-        }
-        Played::Length(_, length, next) => {
-            let count = length.count as u32;
-            pass.next = next;
-            pass.length = length;
-            pass.rest += count;
-            pass.frames += count;
-            Passed::On(pass)
-        }
-        Played::Note(_, next) => Passed::On(after_lone(pass, next)),
-        Played::Refused(number, at, address) => {
-            Passed::Finished(Finish::Refused(number, at, address))
-        }
+        Played::End => Err(Ok(())),
+        Played::EndLoop(next) => Ok(Pass {
+            next,
+            counter: 0,
+            frames: pass.frames
+                + later_plays(pass.counter, pass.lead, pass.length.count, pass.rest),
+            ..pass
+        }),
+        Played::BeginLoop(counter, next) => Ok(Pass {
+            next,
+            counter,
+            lead: 0,
+            rest: 0,
+            ..pass
+        }),
+        Played::Length(_, length, next) => Ok(Pass {
+            next,
+            length,
+            rest: pass.rest + length.count as u32,
+            frames: pass.frames + length.count as u32,
+            ..pass
+        }),
+        Played::Note(_, next) => Ok(after_lone(pass, next)),
+        Played::Refused(refusal, at, address) => Err(Err((refusal, at, address))),
     }
 }
 
-fn pass_on(kind: Kind, bytes: &[u8], lengths: &[u8], window: u8, base: u16, pass: Pass) -> Passed
-    requires { Small pass × Limited bytes.now }
-    ensures { result ≡ passed_of (source_of kind bytes.now lengths.now window (address_of base)) pass }
+#[tactic(auto, unfolding(crate::specs::Timeline::passed_of))]
+fn pass_on(source: Source, pass: Pass) -> Passed
+    requires { Small pass × Limited source.bytes.now }
+    ensures { result ≡ passed_of (source_of source.entry.kind source.entry.bytes.now source.entry.lengths.now source.entry.window (address_of source.entry.base)) pass }
 {
-    let at = pass.next;
-    let length = pass.length;
-    passed_by(
-        pass,
-        channel::played_at(kind, bytes, lengths, window, base, at, length),
-    )
+    let played = channel::played_at(source, pass.next, pass.length);
+    passed_by(pass, played)
 }
 
-// Of data that stand at offset base of the bank.
-pub fn timeline_of(kind: Kind, bytes: &[u8], lengths: &[u8], window: u8, base: u16) -> Timeline
-    ensures { Timed (source_of kind (take data_limit bytes.now) lengths.now window (address_of base)) result }
+// Data longer than the limit is read up to it.
+pub fn timeline_of(source: Source) -> Timeline
+    ensures { Timed (source_of source.entry.kind (take data_limit source.entry.bytes.now) source.entry.lengths.now source.entry.window (address_of source.entry.base)) result }
 {
-    let data = bytes::part(bytes, 0, DATA_LIMIT);
+    let source = Source {
+        bytes: bytes::part(source.bytes, 0, DATA_LIMIT),
+        ..source
+    };
     let mut pass = Pass {
         next: 0,
         length: Frames { count: 0 },
@@ -140,25 +139,22 @@ pub fn timeline_of(kind: Kind, bytes: &[u8], lengths: &[u8], window: u8, base: u
         rest: 0,
         frames: 0,
     };
-    let mut n: usize = 0;
-    while n <= data.len() {
-        let passed = pass_on(kind, data, lengths, window, base, pass);
-        match passed {
-            Passed::On(after) => {
-                pass = after;
-                n += 1;
-            }
-            Passed::Finished(finish) => {
-                let frames = pass.frames;
-                return Timeline { frames, finish };
+    // each command passes a byte, and the last turn finds none
+    for _ in 0..source.bytes.len() + 1 {
+        match pass_on(source, pass) {
+            Ok(after) => pass = after,
+            Err(finish) => {
+                return Timeline {
+                    frames: pass.frames,
+                    finish,
+                };
             }
         }
     }
     let at = pass.next;
-    let frames = pass.frames;
     Timeline {
-        frames,
-        finish: Finish::Refused(refusal::PAST_DATA, at, channel::address_at(base, at)),
+        frames: pass.frames,
+        finish: Err((Refusal::PastData, at, channel::address_at(source.base, at))),
     }
 }
 
@@ -166,59 +162,39 @@ pub fn timeline_of(kind: Kind, bytes: &[u8], lengths: &[u8], window: u8, base: u
 fn channel_timeline(bank: &[u8], track: Track, voice: Voice) -> Timeline
     ensures { result ≡ timeline_of (channel_source bank.now track voice) }
 {
-    let kind = voice.kind;
-    let base = voice.data;
-    let table = track.lengths;
-    timeline_of(
-        kind,
-        bytes::part(bank, base as usize, DATA_LIMIT),
-        bytes::part(bank, table, bank::LENGTHS_SIZE),
-        track.window,
-        base,
-    )
+    timeline_of(channel::source_at(bank, track, voice))
 }
 
-fn stop_of(bank: &[u8], track: Track, i: usize, voice: Voice) -> Soonest
+// The i-th channel by itself, if it is used.
+fn stop_of(bank: &[u8], track: Track, i: usize, voice: Option<Voice>) -> Option<Soonest>
     ensures { result ≡ stop_of bank.now track i voice }
 {
-    let used = voice.used;
-    if used {
-        let timeline = channel_timeline(bank, track, voice);
-        let finish = timeline.finish;
-        return Soonest::Stop(timeline.frames, i, finish);
-    }
-    Soonest::Nothing
+    let timeline = channel_timeline(bank, track, voice?);
+    Some(Soonest {
+        frame: timeline.frames,
+        channel: i,
+        finish: timeline.finish,
+    })
 }
 
 // In one frame the channel that goes first stops it.
-fn sooner_of(first: Soonest, other: Soonest) -> Soonest
+fn sooner_of(first: Option<Soonest>, other: Option<Soonest>) -> Option<Soonest>
     ensures { result ≡ sooner first other }
 {
-    match first {
-        Soonest::Nothing => other,
-        Soonest::Stop(m, _, _) => match other {
-            Soonest::Nothing => first,
-            Soonest::Stop(n, _, _) => {
-                if m <= n {
-                    return first;
-                }
-                other
-            }
-        },
+    match (first, other) {
+        (None, _) => other,
+        (Some(a), Some(b)) if b.frame < a.frame => other,
+        _ => first,
     }
 }
 
 // The least stop of the used channels.
-pub fn soonest_of(bank: &[u8], track: Track) -> Soonest
+pub fn soonest_of(bank: &[u8], track: Track) -> Option<Soonest>
     ensures { Answers told_soonest result (soonest_of bank.now track) }
 {
-    let voices = track.voices;
-    let mut soonest = Soonest::Nothing;
-    let mut i: usize = 0;
-    while i < 4 {
-        let voice = voices[i];
-        soonest = sooner_of(soonest, stop_of(bank, track, i, voice));
-        i += 1;
+    let mut soonest = None;
+    for (i, voice) in track.voices.iter().enumerate() {
+        soonest = sooner_of(soonest, stop_of(bank, track, i, *voice));
     }
     soonest
 }

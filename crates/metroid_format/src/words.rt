@@ -1,30 +1,28 @@
 // Commands as 16-bit words: straight reading, which runs no loop, and writing.
-ghost use Rattle.std.specs.Prelude.{ℕ, ◌≡◌, take};
+ghost use Rattle.std.specs.Prelude.{◌≡◌, true, false, take, MatchOption};
 ghost use Rattle.std.proofs.lemmas.List.Edits.{sets};
-ghost use Rattle.metroid_format.specs.Command.{data_limit, is_end};
-ghost use Rattle.metroid_format.specs.Words.{pair, command_of_word, word_size, encoded, Encodes, Writes};
+ghost use Rattle.metroid_format.specs.Command.{data_limit};
+ghost use Rattle.metroid_format.specs.Words.{pair, command_of_word, encoded, Encodes, Writes};
 ghost use Rattle.metroid_format.specs.Words.{straight, Decodes, Reads};
 
 use crate::command;
-use crate::command::{Command, DATA_LIMIT, Decoded, Finish, Kind};
-use engine_base::{buffer, bytes, refusal};
+use crate::command::{DATA_LIMIT, Decoded, Finish, Kind};
+use engine_base::refusal::Refusal;
+use engine_base::{buffer, bytes};
 
+// What reading refuses.
 #[derive(Clone, Copy)]
-pub enum Reading {
-    // how many words were written
-    Wrote(usize),
+pub enum ReadError {
     // 10, 11 or 15 and the offset of the byte
-    Refused(u32, usize),
+    Byte(Refusal, usize),
     NoRoom,
 }
 
-#[derive(Clone, Copy)]
-pub enum Writing {
-    // how many bytes were written
-    Wrote(usize),
-    InvalidWord,
-    NoRoom,
-}
+// How many words were written.
+pub type Reading = Result<usize, ReadError>;
+
+// How many bytes were written, or 17 or 18.
+pub type Writing = Result<usize, Refusal>;
 
 #[derive(Clone, Copy)]
 struct Decoding {
@@ -32,42 +30,27 @@ struct Decoding {
     finish: Finish,
 }
 
-// Of a word's command.
-#[derive(Clone, Copy)]
-struct Size {
-    // 0 where reading never gives the word
-    bytes: usize,
-    end: bool,
-}
-
-#[derive(Clone, Copy)]
-struct Encoding {
-    count: usize,
-    valid: bool,
-}
-
 // The words of the data up to its end or first refusal, written as far as they fit.
 fn decode(kind: Kind, bytes: &[u8], out: &mut [u16]) -> Decoding
     ensures { Decodes (straight kind bytes.now) out.old result.count result.finish out.new }
 {
-    let mut at: usize = 0;
-    let mut n: usize = 0;
-    while n < bytes.len() {
+    let mut at = 0;
+    // a command has a byte at least
+    for n in 0..bytes.len() {
         match command::command_at(kind, bytes, at) {
-            Decoded::Refused(number, offset) => {
+            Err((refusal, offset)) => {
                 return Decoding {
                     count: n,
-                    finish: Finish::Refused(number, offset),
+                    finish: Err((refusal, offset)),
                 };
             }
-            Decoded::Found(command, next) => {
+            Ok((command, next)) => {
                 let word = bytes::word(bytes::part(bytes, at, next - at), 0);
-                buffer::put16(out, n, word);
-                n += 1;
+                buffer::put(out, n, word);
                 if command::is_end(command) {
                     return Decoding {
-                        count: n,
-                        finish: Finish::End,
+                        count: n + 1,
+                        finish: Ok(()),
                     };
                 }
                 at = next;
@@ -75,27 +58,22 @@ fn decode(kind: Kind, bytes: &[u8], out: &mut [u16]) -> Decoding
         }
     }
     Decoding {
-        count: n,
-        finish: Finish::Refused(refusal::PAST_DATA, at),
+        count: bytes.len(),
+        finish: Err((Refusal::PastData, at)),
     }
 }
 
-// The size of the command that a word stands for, and whether it is the end.
-fn size_of(kind: Kind, word: u16) -> Size
-    ensures { (result.bytes ≡ word_size (command_of_word kind word)) × ((c : Command) (next : ℕ) → command_of_word kind word ≡ Decoded.Found c next → result.end ≡ is_end c) }
+// The command that a word stands for: what its bytes are read as, if reading gives the word.
+#[tactic(auto, unfolding(crate::specs::Words::command_of_word))]
+fn command_of_word(kind: Kind, word: u16) -> Decoded
+    ensures { result ≡ command_of_word kind word }
 {
-    let low = (word % 256) as u8;
-    let high = (word / 256) as u8;
-    let bytes = [low, high];
-    if let Decoded::Found(command, next) = command::command_at(kind, &bytes, 0) {
-        if bytes::word(bytes::part(&bytes, 0, next), 0) == word {
-            let end = command::is_end(command);
-            return Size { bytes: next, end };
+    let bytes = word.to_le_bytes();
+    match command::command_at(kind, &bytes, 0) {
+        Ok((command, next)) if bytes::word(bytes::part(&bytes, 0, next), 0) == word => {
+            Ok((command, next))
         }
-    }
-    Size {
-        bytes: 0,
-        end: false,
+        _ => Err((Refusal::InvalidWord, 0)),
     }
 }
 
@@ -103,41 +81,27 @@ fn size_of(kind: Kind, word: u16) -> Size
 fn put_pair(out: &mut [u8], at: usize, word: u16, count: usize)
     ensures { out.new ≡ sets out.old at (take count (pair word)) }
 {
-    let low = (word % 256) as u8;
-    let high = (word / 256) as u8;
-    let bytes = [low, high];
-    buffer::fill8(out, at, bytes::part(&bytes, 0, count));
+    buffer::fill(out, at, bytes::part(&word.to_le_bytes(), 0, count));
 }
 
-// The bytes of the words up to the first that is refused, written as far as they fit.
-fn encode(kind: Kind, words: &[u16], out: &mut [u8]) -> Encoding
-    ensures { Encodes (encoded kind words.now) out.old result.count result.valid out.new }
+// The bytes of the words up to the first that is refused, written as far as they fit: how many there are, if none is.
+fn encode(kind: Kind, words: &[u16], out: &mut [u8]) -> Option<usize>
+    ensures valid { MatchOption result ((encoded kind words.now).valid ≡ false) (λ count. Encodes (encoded kind words.now) out.old count true out.new) }
+    ensures written { out.new ≡ sets out.old 0 (encoded kind words.now).bytes }
 {
-    let mut i: usize = 0;
-    let mut n: usize = 0;
-    while i < words.len() {
-        let word = words[i];
-        let size = size_of(kind, word);
-        if size.bytes == 0 {
-            return Encoding {
-                count: n,
-                valid: false,
-            };
-        }
-        put_pair(out, n, word, size.bytes);
-        n += size.bytes;
-        i += 1;
-        if size.end {
-            return Encoding {
-                count: n,
-                valid: i == words.len(),
-            };
+    let mut n = 0;
+    for (i, word) in words.iter().enumerate() {
+        // `.ok()?` here and `then_some` below were tried: the proof did not close, since the laws take the word's `Result`
+        let Ok((command, size)) = command_of_word(kind, *word) else {
+            return None;
+        };
+        put_pair(out, n, *word, size);
+        n += size;
+        if command::is_end(command) {
+            return if i + 1 == words.len() { Some(n) } else { None };
         }
     }
-    Encoding {
-        count: n,
-        valid: false,
-    }
+    None
 }
 
 // One channel's data into words, one a command, up to and including the first end.
@@ -147,17 +111,14 @@ pub fn read_words(kind: Kind, bytes: &[u8], out: &mut [u16]) -> Reading
     let data = bytes::part(bytes, 0, DATA_LIMIT);
     let mut scratch = [0u16; 1];
     let found = decode(kind, data, &mut scratch);
-    let count = found.count;
-    let room = out.len();
-    if room < count {
-        return Reading::NoRoom;
+    if out.len() < found.count {
+        return Err(ReadError::NoRoom);
     }
-    let finish = found.finish;
-    match finish {
-        Finish::Refused(number, offset) => Reading::Refused(number, offset),
-        Finish::End => {
+    match found.finish {
+        Err((refusal, offset)) => Err(ReadError::Byte(refusal, offset)),
+        Ok(()) => {
             decode(kind, data, out);
-            Reading::Wrote(count)
+            Ok(found.count)
         }
     }
 }
@@ -167,18 +128,10 @@ pub fn write_words(kind: Kind, words: &[u16], out: &mut [u8]) -> Writing
     ensures { Writes data_limit kind words.now out.old result out.new }
 {
     let mut scratch = [0u8; 1];
-    let found = encode(kind, words, &mut scratch);
-    let valid = found.valid;
-    let count = found.count;
-    if valid {
-        if out.len() < count {
-            return Writing::NoRoom;
-        }
-        if DATA_LIMIT < count {
-            return Writing::NoRoom;
-        }
-        encode(kind, words, out);
-        return Writing::Wrote(count);
+    let count = encode(kind, words, &mut scratch).ok_or(Refusal::InvalidWord)?;
+    if out.len() < count || DATA_LIMIT < count {
+        return Err(Refusal::NoRoom);
     }
-    Writing::InvalidWord
+    encode(kind, words, out);
+    Ok(count)
 }

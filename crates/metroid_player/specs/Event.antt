@@ -1,5 +1,5 @@
 -- Document 01, 'A frame': what the answer holds for each channel.
-use Rattle.std.specs.Prelude.{ℕ, ◌+◌, ◌-◌, ◌/◌, ◌%◌, Bool, false, List, [], ◌∷◌, eqb, get_or, take, drop}
+use Rattle.std.specs.Prelude.{ℕ, ◌+◌, ◌-◌, ◌/◌, ◌%◌, Bool, false, Option, Some, None, List, [], ◌∷◌, eqb, get_or, take, drop}
 use Rattle.engine_base.specs.Pick.{pick}
 use Rattle.metroid_format.specs.Bank.{periods_size, presets_size}
 use Rattle.engine_base.specs.Envelope.{envelope_reach}
@@ -29,9 +29,13 @@ is_rest period = eqb (period % 256) 0
 abbrev pub noise_rest : ℕ
 noise_rest = 0x01
 
+abbrev pub envelope_at : List ℕ → Option ℕ → List ℕ
+envelope_at bank None = []
+envelope_at bank (Some at) = take envelope_reach (drop at bank)
+
 -- the bytes of a square's envelope, none where it has none
 unfoldable pub envelope_of : List ℕ → Voice → List ℕ
-envelope_of bank voice = pick voice.has_envelope (take envelope_reach (drop voice.envelope bank)) []
+envelope_of bank voice = envelope_at bank voice.envelope
 
 -- the channels are square 1, square 2, triangle, noise
 abbrev pub triangle_channel : ℕ

@@ -1,5 +1,5 @@
 -- Document 01, 'Who uses it', and document 02, No. 2: the record, and what 16 tests.
-use Rattle.std.specs.Prelude.{ℕ, Bool, true, false, List, [], ◌∷◌, leb, eqb}
+use Rattle.std.specs.Prelude.{ℕ, Bool, true, false, Option, Some, None, List, [], ◌∷◌, leb, eqb}
 use Rattle.engine_base.specs.Pick.{pick}
 use Rattle.engine_base.specs.Channels.{four}
 use Rattle.metroid_format.specs.Command.{data_limit, is_note}
@@ -34,11 +34,12 @@ sound_fits voice c =
     (pick (leb c.left.count c.length.count) (is_note voice.kind c.sounding) false)
 
 -- 16 asks only used channels
-unfoldable pub channel_fits : Voice → Channel → Bool
-channel_fits voice c =
-    pick voice.used (pick (leb c.next data_limit) (pick (leb c.loop_start data_limit) (sound_fits voice c) false) false) true
+unfoldable pub channel_fits : Option Voice → Channel → Bool
+channel_fits None c = true
+channel_fits (Some voice) c =
+    pick (leb c.next data_limit) (pick (leb c.loop_start data_limit) (sound_fits voice c) false) false
 
-abbrev pub channels_fit : List Voice → List Channel → Bool
+abbrev pub channels_fit : List (Option Voice) → List Channel → Bool
 channels_fit [] cs = true
 channels_fit (v ∷ vs) [] = true
 channels_fit (v ∷ vs) (c ∷ cs) = pick (channel_fits v c) (channels_fit vs cs) false
@@ -48,7 +49,7 @@ abbrev pub most_frames : ℕ
 most_frames = 16777216
 
 -- what is not refused under 16; the numbers are asked whether or not any channel is used
-unfoldable pub record_fits : List Voice → Player → Bool
+unfoldable pub record_fits : List (Option Voice) → Player → Bool
 record_fits voices player =
     pick (leb player.frames_left most_frames)
     (pick (leb player.pass_length most_frames) (channels_fit voices player.channels) false)

@@ -9,20 +9,14 @@ use engine_base::time::Frames;
 pub(crate) fn ctrl1_at(default: u8, envelope: &[u8], index: Frames) -> u8
     ensures { result ≡ ctrl1_at default envelope.now index.count }
 {
-    let last = index.count as usize;
-    let mut i: usize = 0;
-    while i < envelope.len() {
-        let v = envelope[i];
-        if v == 0xf0 {
-            return ctrl1::SILENT;
+    let last = usize::from(index.count);
+    for (i, v) in envelope.iter().enumerate() {
+        match *v {
+            0xf0 => return ctrl1::SILENT,
+            0xff => return ctrl1::default_ctrl1(default),
+            v if last <= i => return ctrl1::combine(v, default),
+            _ => {}
         }
-        if v == 0xff {
-            return ctrl1::default_ctrl1(default);
-        }
-        if last <= i {
-            return ctrl1::combine(v, default);
-        }
-        i += 1;
     }
     ctrl1::default_ctrl1(default)
 }

@@ -6,9 +6,9 @@ ghost use Rattle.metroid_player.specs.Event.{off_event, envelope_of, melodic_res
 use crate::record::Channel;
 use crate::{ctrl1, release};
 use engine_base::ctrl1::SILENT;
-use engine_base::release::Release;
+use engine_base::release::{Release, quarter_frames};
 use engine_base::time::QuarterFrames;
-use engine_base::{answer, bytes, envelope, time};
+use engine_base::{bytes, envelope, time};
 use metroid_format::bank;
 use metroid_format::command::Kind;
 use metroid_format::header::{Track, Voice};
@@ -49,44 +49,39 @@ pub(crate) fn off() -> Event
     }
 }
 
-fn wide(b: u8) -> u16
-    ensures { result ≡ b }
-{
-    b as u16
-}
-
 // The big-endian word of a key.
+#[tactic(auto, unfolding(engine_base::specs::Bytes::period_at))]
 fn period_at(periods: &[u8], key: u8) -> u16
     ensures { result ≡ period_at periods.now key }
 {
-    let at = 2 * (key as usize);
-    256 * wide(bytes::byte(periods, at)) + wide(bytes::byte(periods, at + 1))
+    let at = 2 * usize::from(key);
+    u16::from_be_bytes([bytes::byte(periods, at), bytes::byte(periods, at + 1)])
 }
 
 // The bytes of a square's envelope: none where it has none.
+#[tactic(auto, unfolding(crate::specs::Event::envelope_of))]
 fn envelope_of(bank: &[u8], voice: Voice) -> &[u8]
     ensures { result.now ≡ envelope_of bank.now voice }
 {
-    let has = voice.has_envelope;
-    let at = voice.envelope as usize;
-    if has {
-        return bytes::part(bank, at, envelope::REACH);
+    match voice.envelope {
+        Some(at) => bytes::part(bank, usize::from(at), envelope::REACH),
+        None => &[],
     }
-    bytes::part(bank, 0, 0)
 }
 
+#[tactic(auto, unfolding(crate::specs::Event::melodic_rest))]
 fn melodic_rest(i: usize) -> Sound
     ensures { result ≡ melodic_rest i }
 {
     if i == TRIANGLE {
-        let none = Release::After(QuarterFrames { count: 0 });
-        Sound::TriangleRest(none)
+        Sound::TriangleRest(Release::After(QuarterFrames { count: 0 }))
     } else {
         Sound::SquareRest(SILENT)
     }
 }
 
 // Ctrl 1 of a square's note.
+#[tactic(auto, unfolding(crate::specs::Event::note_ctrl1))]
 fn note_ctrl1(bank: &[u8], voice: Voice, channel: Channel) -> u8
     ensures { result ≡ note_ctrl1 bank.now voice channel }
 {
@@ -95,6 +90,7 @@ fn note_ctrl1(bank: &[u8], voice: Voice, channel: Channel) -> u8
 }
 
 // A key whose word has low byte 0 is a rest.
+#[tactic(auto, unfolding(crate::specs::Event::melodic_sound))]
 fn melodic_sound(bank: &[u8], track: Track, i: usize, voice: Voice, channel: Channel) -> Sound
     ensures { result ≡ melodic_sound bank.now track i voice channel }
 {
@@ -104,38 +100,40 @@ fn melodic_sound(bank: &[u8], track: Track, i: usize, voice: Voice, channel: Cha
         return melodic_rest(i);
     }
     if i == TRIANGLE {
-        let after = release::release_of(track.release, channel.length);
-        Sound::Triangle(key, period, after)
+        Sound::Triangle(
+            key,
+            period,
+            release::release_of(track.release, channel.length),
+        )
     } else {
-        let ctrl1 = note_ctrl1(bank, voice, channel);
-        Sound::Square(key, period, ctrl1)
+        Sound::Square(key, period, note_ctrl1(bank, voice, channel))
     }
 }
 
+#[tactic(auto, unfolding(crate::specs::Event::noise_sound))]
 fn noise_sound(presets: &[u8], b: u8) -> Sound
     ensures { result ≡ noise_sound presets.now b }
 {
     if b == NOISE_REST {
         return Sound::NoiseRest;
     }
-    let at = b as usize;
-    let first = bytes::byte(presets, at);
-    let second = bytes::byte(presets, at + 1);
-    let third = bytes::byte(presets, at + 2);
-    Sound::Noise(first, second, third)
+    let at = usize::from(b);
+    Sound::Noise(
+        bytes::byte(presets, at),
+        bytes::byte(presets, at + 1),
+        bytes::byte(presets, at + 2),
+    )
 }
 
 // The sound of the i-th channel, whose record has the frame not yet taken off.
+#[tactic(auto, unfolding(crate::specs::Event::sound_of))]
 fn sound_of(bank: &[u8], track: Track, i: usize, voice: Voice, channel: Channel) -> Sound
     ensures { result ≡ sound_of bank.now track i voice channel }
 {
-    let kind = voice.kind;
-    match kind {
+    match voice.kind {
         Kind::Noise => {
-            noise_sound(
-                bytes::part(bank, track.presets, bank::PRESETS_SIZE),
-                channel.sounding,
-            )
+            let presets = bytes::part(bank, track.presets, bank::PRESETS_SIZE);
+            noise_sound(presets, channel.sounding)
         }
         Kind::Melodic => melodic_sound(bank, track, i, voice, channel),
     }
@@ -151,31 +149,26 @@ pub(crate) fn event_of(
 ) -> Event
     ensures { result ≡ event_of bank.now track i voice channel began }
 {
-    let sound = sound_of(bank, track, i, voice, channel);
-    Event { began, sound }
+    Event {
+        began,
+        sound: sound_of(bank, track, i, voice, channel),
+    }
 }
 
 // An event as numbers: 0 off, 1 rest, 2 note; whether it began; then three values.
 pub fn told(event: Event) -> [u32; 5]
     ensures { result ≡ told_event event }
 {
-    let sound = event.sound;
-    let began = answer::flag(event.began);
-    match sound {
+    let began = u32::from(event.began);
+    match event.sound {
         Sound::Off => [0, 0, 0, 0, 0],
-        Sound::SquareRest(ctrl1) => [1, began, 0, 0, ctrl1 as u32],
-        Sound::TriangleRest(release) => {
-            let after = engine_base::release::quarter_frames(release);
-            [1, began, 0, 0, after]
-        }
+        Sound::SquareRest(ctrl1) => [1, began, 0, 0, ctrl1.into()],
+        Sound::TriangleRest(release) => [1, began, 0, 0, quarter_frames(release)],
         Sound::NoiseRest => [1, began, 0, 0, 0],
-        Sound::Square(key, period, ctrl1) => [2, began, key as u32, period as u32, ctrl1 as u32],
+        Sound::Square(key, period, ctrl1) => [2, began, key.into(), period.into(), ctrl1.into()],
         Sound::Triangle(key, period, release) => {
-            let after = engine_base::release::quarter_frames(release);
-            [2, began, key as u32, period as u32, after]
+            [2, began, key.into(), period.into(), quarter_frames(release)]
         }
-        Sound::Noise(first, second, third) => {
-            [2, began, first as u32, second as u32, third as u32]
-        }
+        Sound::Noise(first, second, third) => [2, began, first.into(), second.into(), third.into()],
     }
 }

@@ -1,6 +1,6 @@
 // The player's record, and what is refused of one.
 ghost use Rattle.std.specs.Prelude.{◌≡◌};
-ghost use Rattle.metroid_player.specs.Record.{fresh_channel, fresh_player, ended_player, cursor_of, channel_fits, channels_fit, record_fits};
+ghost use Rattle.metroid_player.specs.Record.{fresh_channel, fresh_player, ended_player, cursor_of, sound_fits, channel_fits, channels_fit, record_fits};
 
 use engine_base::time::Frames;
 use metroid_format::channel::Cursor;
@@ -53,10 +53,9 @@ fn fresh_channel() -> Channel
 pub(crate) fn fresh(length: u32) -> Player
     ensures { result ≡ fresh_player length }
 {
-    let channel = fresh_channel();
     Player {
         stopped: 0,
-        channels: [channel; 4],
+        channels: [fresh_channel(); 4],
         frames_left: length,
         pass_length: length,
     }
@@ -67,76 +66,68 @@ pub(crate) fn ended(restart: bool, length: u32) -> Player
     ensures { result ≡ ended_player restart length }
 {
     if restart {
-        return fresh(length);
+        fresh(length)
+    } else {
+        Player {
+            stopped: 1,
+            ..fresh(0)
+        }
     }
-    let mut player = fresh(0);
-    player.stopped = 1;
-    player
 }
 
-pub(crate) fn cursor_of(channel: Channel) -> Cursor
-    ensures { result ≡ cursor_of channel }
-{
-    let length = channel.length;
-    Cursor {
-        next: channel.next,
-        loop_start: channel.loop_start,
-        counter: channel.counter,
-        length,
+impl From<Channel> for Cursor {
+    ghost from_gives = { λ channel cursor. cursor ≡ cursor_of channel };
+
+    fn from(channel: Channel) -> Cursor {
+        Cursor {
+            next: channel.next,
+            loop_start: channel.loop_start,
+            counter: channel.counter,
+            length: channel.length,
+        }
     }
+}
+
+// No note, or one that can be sounding.
+#[tactic(auto, unfolding(crate::specs::Record::sound_fits))]
+fn sound_fits(voice: Voice, channel: Channel) -> bool
+    ensures { result ≡ sound_fits voice channel }
+{
+    let left = channel.left.count;
+    left == 0 || left <= channel.length.count && command::is_note(voice.kind, channel.sounding)
 }
 
 // What is not refused under 16: an unused channel, or offsets within the data's limit and a note that can be sounding.
-fn channel_fits(voice: Voice, channel: Channel) -> bool
+#[tactic(auto, unfolding(crate::specs::Record::channel_fits))]
+fn channel_fits(voice: Option<Voice>, channel: Channel) -> bool
     ensures { result ≡ channel_fits voice channel }
 {
-    let used = voice.used;
-    let kind = voice.kind;
-    if used {
-        if command::DATA_LIMIT < channel.next as usize {
-            return false;
+    match voice {
+        None => true,
+        Some(voice) => {
+            usize::from(channel.next) <= command::DATA_LIMIT
+                && usize::from(channel.loop_start) <= command::DATA_LIMIT
+                && sound_fits(voice, channel)
         }
-        if command::DATA_LIMIT < channel.loop_start as usize {
-            return false;
-        }
-        if channel.left.count == 0 {
-            return true;
-        }
-        if channel.length.count < channel.left.count {
-            return false;
-        }
-        return command::is_note(kind, channel.sounding);
     }
-    true
 }
 
 // What 16 tests of the used channels.
-fn channels_fit(voices: [Voice; 4], channels: [Channel; 4]) -> bool
+fn channels_fit(voices: [Option<Voice>; 4], channels: [Channel; 4]) -> bool
     ensures { result ≡ channels_fit voices channels }
 {
-    let mut i: usize = 0;
-    while i < 4 {
-        let voice = voices[i];
-        let channel = channels[i];
-        if channel_fits(voice, channel) {
-            i += 1;
-        } else {
-            return false;
-        }
-    }
-    true
+    voices
+        .iter()
+        .zip(&channels)
+        .all(|(voice, channel)| channel_fits(*voice, *channel))
 }
 
 // What 16 tests.
-pub(crate) fn record_fits(voices: [Voice; 4], player: Player) -> bool
+#[tactic(auto, unfolding(crate::specs::Record::record_fits))]
+pub(crate) fn record_fits(voices: [Option<Voice>; 4], player: Player) -> bool
     ensures { result ≡ record_fits voices player }
 {
-    if MOST_FRAMES < player.frames_left {
-        return false;
-    }
-    if MOST_FRAMES < player.pass_length {
-        return false;
-    }
-    let channels = player.channels;
-    channels_fit(voices, channels)
+    player.frames_left <= MOST_FRAMES
+        && player.pass_length <= MOST_FRAMES
+        && channels_fit(voices, player.channels)
 }

@@ -1,6 +1,7 @@
 -- Lines, and what one is to the buffer that it is written into.
 use Rattle.std.specs.Prelude.{ℕ, ◌+◌, ◌≤◌, List, [], ◌∷◌, ◌++◌, ◌≡◌, length}
 use Rattle.std.proofs.lemmas.List.Edits.{sets}
+use Rattle.metroid_text.specs.declared.line.Line.{Line}
 use Rattle.metroid_text.specs.Decimal.{decimal, digits_most}
 
 abbrev pub space : List ℕ
@@ -41,3 +42,8 @@ pub record Puts (most : ℕ) (text before : List ℕ) (at next : ℕ) (after : L
   pub size : next ≡ at + length text
   pub within : length text ≤ most
   pub buffer : after ≡ sets before at text
+
+-- the same of a line, which stays in its buffer
+pub record Writes (most : ℕ) (text : List ℕ) (before after : Line) : Type 0 where
+  pub put : Puts most text before.out.now before.at after.at after.out.now
+  pub same : after.out.ghost_name ≡ before.out.ghost_name

@@ -1,7 +1,9 @@
 -- The lines of mothercheck.
 use Rattle.std.specs.Prelude.{ℕ, ◌+◌, Bool, false, List, [], ◌∷◌, ◌++◌, leb}
 use Rattle.engine_base.specs.Pick.{pick}
-use Rattle.engine_base.specs.Refusal.{invalid_command, past_data}
+use Rattle.engine_base.specs.Refusal.{number_of}
+use Rattle.engine_base.specs.declared.refusal.Refusal.{Refusal}
+use Rattle.engine_base.specs.declared.refusal.Refusal.TheVariants.{InvalidCommand, PastData}
 use Rattle.metroid_text.specs.Line.{space, newline}
 use Rattle.metroid_text.specs.Hex.{hex_digits, hex}
 use Rattle.metroid_text.specs.Verdict.{pass_word, refuse_word, sentence, sentence_most}
@@ -23,21 +25,22 @@ track_words Tracks.Low track = sentence low_word (track ∷ [])
 track_words Tracks.High track = sentence high_word (track ∷ [])
 
 -- 10 to 15 do
-unfoldable pub names_address : ℕ → Bool
-names_address number = pick (leb invalid_command number) (leb number past_data) false
+unfoldable pub names_address : Refusal → Bool
+names_address refusal =
+    pick (leb (number_of InvalidCommand) (number_of refusal)) (leb (number_of refusal) (number_of PastData)) false
 
 -- `refuse NO CHANNEL OFFSET PLACE`
 abbrev pub place_words : Fault → List ℕ
-place_words f = sentence refuse_word (f.number ∷ f.channel ∷ f.at ∷ f.place ∷ [])
+place_words f = sentence refuse_word (number_of f.refusal ∷ f.channel ∷ f.at ∷ f.place ∷ [])
 
--- and the address, in hex, where the number names one
+-- and the address, in hex, where the refusal names one
 unfoldable pub fault_words : Fault → List ℕ
-fault_words f = pick (names_address f.number) (place_words f ++ space ++ hex f.address) (place_words f)
+fault_words f = pick (names_address f.refusal) (place_words f ++ space ++ hex f.address) (place_words f)
 
 -- `pass`, `refuse NO`, or a fault's
 abbrev pub mother_words : Verdict → List ℕ
 mother_words Verdict.Pass = pass_word
-mother_words (Verdict.Refused number) = sentence refuse_word (number ∷ [])
+mother_words (Verdict.Refused refusal) = sentence refuse_word (number_of refusal ∷ [])
 mother_words (Verdict.Fault f) = fault_words f
 
 abbrev pub mother_text : Verdict → List ℕ

@@ -1,5 +1,6 @@
 -- The lines of cuecheck.
 use Rattle.std.specs.Prelude.{ℕ, ◌+◌, ◌*◌, List, [], ◌∷◌, ◌++◌, length}
+use Rattle.engine_base.specs.Refusal.{number_of}
 use Rattle.metroid_check.specs.declared.verdict.Verdict.{Verdict}
 use Rattle.metroid_text.specs.Decimal.{decimal}
 use Rattle.metroid_text.specs.Line.{space, newline, spaced, spaced_most}
@@ -20,9 +21,9 @@ sentence word values = word ++ spaced values
 -- `pass FRAME CHANNEL`, `refuse NO` or `refuse NO CHANNEL OFFSET FRAME ADDRESS`, the address in hex
 abbrev pub verdict_words : Verdict → List ℕ
 verdict_words (Verdict.Pass frame channel) = sentence pass_word (frame ∷ channel ∷ [])
-verdict_words (Verdict.Refused number) = sentence refuse_word (number ∷ [])
-verdict_words (Verdict.Fault number channel at frame address) =
-    sentence refuse_word (number ∷ channel ∷ at ∷ frame ∷ []) ++ space ++ hex address
+verdict_words (Verdict.Refused refusal) = sentence refuse_word (number_of refusal ∷ [])
+verdict_words (Verdict.Fault refusal channel at frame address) =
+    sentence refuse_word (number_of refusal ∷ channel ∷ at ∷ frame ∷ []) ++ space ++ hex address
 
 abbrev pub verdict_text : Verdict → List ℕ
 verdict_text verdict = verdict_words verdict ++ newline

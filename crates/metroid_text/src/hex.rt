@@ -1,16 +1,18 @@
 // Numbers in hex.
 ghost use Rattle.std.specs.Prelude.{◌+◌, ◌<◌, ◌^◌};
 ghost use Rattle.metroid_text.specs.Hex.{hex_digits, hex};
-ghost use Rattle.metroid_text.specs.Line.{Puts};
+ghost use Rattle.metroid_text.specs.Line.{Writes};
 
-use crate::line;
+use crate::line::Line;
 
-// Writes the last four digits of a number from an index on; the index behind them.
-pub(crate) fn put(number: u32, out: &mut [u8], at: usize) -> usize
-    requires { at + hex_digits < 2 ^ 64 }
-    ensures { Puts hex_digits (hex number) out.old at result out.new }
-{
-    let mut digits = [0u8; 16];
-    let count = io::hex((number % 65536) as u64, 4, &mut digits);
-    line::append(&digits[..count], out, at)
+impl Line<'_> {
+    // The last four digits of a number.
+    pub(crate) fn hex(&mut self, number: u32)
+        requires { self.old.at + hex_digits < 2 ^ 64 }
+        ensures { Writes hex_digits (hex number) self.old self.new }
+    {
+        let mut digits = [0u8; 16];
+        let count = io::hex(u64::from(number % 65536), 4, &mut digits);
+        self.text(&digits[..count]);
+    }
 }

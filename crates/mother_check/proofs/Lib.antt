@@ -1,4 +1,5 @@
 pub mod Member
+pub mod Opened
 pub mod clean
 pub mod first
 pub mod run

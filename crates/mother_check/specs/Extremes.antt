@@ -1,6 +1,8 @@
 -- Of what is set anywhere in a track: the transposes of the lowest and the highest amount, and the windows under which lengths fail.
-use Rattle.std.specs.Prelude.{ℕ, ◌+◌, ◌-◌, Bool, true, false, List, [], ◌∷◌, eqb, ltb, replicate}
+use Rattle.std.specs.Prelude.{ℕ, ◌+◌, ◌-◌, Bool, true, false, List, [], ◌∷◌, ltb, replicate, Option, Some, None, Result, Ok, Err}
 use Rattle.engine_base.specs.Pick.{pick}
+use Rattle.engine_base.specs.Refusal.{number_of}
+use Rattle.engine_base.specs.declared.refusal.Refusal.{Refusal}
 use Rattle.mother_format.specs.Bank.{banks, block_of}
 use Rattle.mother_format.specs.Channel.{length_fault}
 use Rattle.mother_format.specs.Transpose.{is_odd}
@@ -28,9 +30,11 @@ with_transpose e m =
       windows = e.windows;
     })
 
--- of a length's numbers, 0 for none
-unfoldable pub is_sooner : ℕ → ℕ → Bool
-is_sooner a b = pick (eqb a 0) false (pick (eqb b 0) true (ltb a b))
+-- of a length: it is refused, and for what comes before the other's refusal, if that is one
+abbrev pub is_sooner : Result (Unit {0}) Refusal → Result (Unit {0}) Refusal → Bool
+is_sooner (Ok none) b = false
+is_sooner (Err a) (Ok none) = true
+is_sooner (Err a) (Err b) = ltb (number_of a) (number_of b)
 
 unfoldable pub worse_window : List ℕ → ℕ → ℕ → ℕ → ℕ → ℕ
 worse_window bank table l w t = pick (is_sooner (length_fault bank table t l) (length_fault bank table w l)) t w
@@ -70,10 +74,14 @@ with_named bank8 banka table kind e (bad place ∷ names) = with_named bank8 ban
 unfoldable pub with_channel : List ℕ → List ℕ → ℕ → Kind → ℕ → Extremes → Extremes
 with_channel bank8 banka table kind list e = with_named bank8 banka table kind e (named (banks bank8 banka) list)
 
-unfoldable pub with_voices : List ℕ → List ℕ → ℕ → Extremes → List Voice → Extremes
+-- an unused channel sets nothing
+abbrev pub with_voice : List ℕ → List ℕ → ℕ → Extremes → Option Voice → Extremes
+with_voice bank8 banka table e None = e
+with_voice bank8 banka table e (Some v) = with_channel bank8 banka table v.kind v.list e
+
+unfoldable pub with_voices : List ℕ → List ℕ → ℕ → Extremes → List (Option Voice) → Extremes
 with_voices bank8 banka table e [] = e
-with_voices bank8 banka table e (v ∷ vs) =
-    with_voices bank8 banka table (pick v.used (with_channel bank8 banka table v.kind v.list e) e) vs
+with_voices bank8 banka table e (v ∷ vs) = with_voices bank8 banka table (with_voice bank8 banka table e v) vs
 
 unfoldable pub extremes_of : List ℕ → List ℕ → Places → Track → Extremes
 extremes_of bank8 banka places track =

@@ -1,5 +1,5 @@
 -- Document 02, No. 3: demand 3 one way. What the check passes is never refused, however many frames are asked for.
-use Rattle.std.specs.Prelude.{ℕ, zero, suc, List, [], ◌∷◌, ◌≡◌}
+use Rattle.std.specs.Prelude.{ℕ, zero, suc, List, [], ◌∷◌, ◌≡◌, None}
 use Rattle.engine_base.specs.Told.{Answers}
 use Rattle.engine_base.specs.declared.answer.Answer.{Answer}
 use Rattle.mother_format.specs.declared.bank.Places.{Places}
@@ -34,8 +34,8 @@ abbrev pub Accepted : Answer → Type 0
 Accepted Answer.Events = Unit {0}
 Accepted Answer.End = Unit {0}
 Accepted Answer.Stopped = Unit {0}
-Accepted (Answer.Refused number) = ⊥
-Accepted (Answer.Fault number i at address) = ⊥
+Accepted (Answer.Refused refusal) = ⊥
+Accepted (Answer.Fault refusal i at address) = ⊥
 
 abbrev pub AllAccepted : List Framed → Type 0
 AllAccepted [] = Unit {0}
@@ -43,7 +43,7 @@ AllAccepted (f ∷ fs) = Accepted f.answer × AllAccepted fs
 
 -- neither start nor a frame is refused
 pub record NeverRefused (run : Run) : Type 0 where
-  pub start : run.started.number ≡ 0
+  pub start : run.started.refusal ≡ None
   pub frames : AllAccepted run.frames
 
 -- what the check owes: the verdict of the definition, and what a pass says of a run of any length

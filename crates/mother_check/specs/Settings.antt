@@ -1,5 +1,5 @@
 -- Document 02, No. 3: the transposes and windows that are set anywhere in a track.
-use Rattle.std.specs.Prelude.{ℕ, List, [], ◌∷◌, ◌++◌, map}
+use Rattle.std.specs.Prelude.{ℕ, List, [], ◌∷◌, ◌++◌, map, Option, Some, None}
 use Rattle.engine_base.specs.Pick.{pick}
 use Rattle.mother_format.specs.Bank.{banks, block_of}
 use Rattle.mother_format.specs.Transpose.{is_odd}
@@ -44,10 +44,13 @@ in_blocks set bank8 banka kind (block place address ∷ names) =
 in_blocks set bank8 banka kind (bad place ∷ names) = in_blocks set bank8 banka kind names
 
 -- by the used channels
-abbrev pub in_voices : (Command → List ℕ) → List ℕ → List ℕ → List Voice → List ℕ
+abbrev pub in_voice : (Command → List ℕ) → List ℕ → List ℕ → Option Voice → List ℕ
+in_voice set bank8 banka None = []
+in_voice set bank8 banka (Some v) = in_blocks set bank8 banka v.kind (named (banks bank8 banka) v.list)
+
+abbrev pub in_voices : (Command → List ℕ) → List ℕ → List ℕ → List (Option Voice) → List ℕ
 in_voices set bank8 banka [] = []
-in_voices set bank8 banka (v ∷ vs) =
-    pick v.used (in_blocks set bank8 banka v.kind (named (banks bank8 banka) v.list)) [] ++ in_voices set bank8 banka vs
+in_voices set bank8 banka (v ∷ vs) = in_voice set bank8 banka v ++ in_voices set bank8 banka vs
 
 -- the header's, and the commands'
 unfoldable pub transposes_of : List ℕ → List ℕ → Track → List ℕ

@@ -1,7 +1,8 @@
 -- Document 02, No. 3: the words of a channel's playlist in playing order; what a goto leads to is looked at once.
-use Rattle.std.specs.Prelude.{ℕ, zero, suc, ◌+◌, ◌*◌, Bool, true, false, List, [], ◌∷◌, get_or, set, replicate}
+use Rattle.std.specs.Prelude.{ℕ, zero, suc, ◌+◌, ◌*◌, Bool, true, false, List, [], ◌∷◌, get_or, set, replicate, Result, Ok, Err}
 use Rattle.engine_base.specs.Pick.{pick}
 use Rattle.engine_base.specs.Address.{offset_of}
+use Rattle.engine_base.specs.declared.refusal.Refusal.{Refusal}
 use Rattle.mother_format.specs.Playlist.{row_limit, entry_at}
 use Rattle.mother_format.specs.declared.playlist.Entry.{Entry}
 use Rattle.mother_check.specs.declared.walk.Spot.{Spot}
@@ -23,11 +24,11 @@ abbrev pub unmarked : List Bool
 unmarked = replicate addresses false
 
 -- a word of the playlist; a goto to a marked address ends the walk as the playlist's end does
-abbrev pub word_by : Spot → List Bool → Entry → Word
-word_by spot marks Entry.End = Done
-word_by spot marks (Entry.Goto target) = pick (get_or marks (offset_of target) false) Done (Goto (spot_at target 0 true))
-word_by spot marks (Entry.Block address next) = Block address (spot_at next (spot.row + 1) false)
-word_by spot marks Entry.Refused = Bad
+abbrev pub word_by : Spot → List Bool → Result Entry Refusal → Word
+word_by spot marks (Ok Entry.End) = Done
+word_by spot marks (Ok (Entry.Goto target)) = pick (get_or marks (offset_of target) false) Done (Goto (spot_at target 0 true))
+word_by spot marks (Ok (Entry.Block address next)) = Block address (spot_at next (spot.row + 1) false)
+word_by spot marks (Err refusal) = Bad
 
 unfoldable pub word_at : List ℕ → Spot → List Bool → Word
 word_at bank spot marks = word_by spot marks (entry_at bank spot.list spot.row spot.by_goto)

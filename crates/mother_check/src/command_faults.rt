@@ -1,38 +1,32 @@
 // The first fault of a command, under what is set anywhere in the track.
 ghost use Rattle.std.specs.Prelude.{◌≡◌, ◌<◌};
-ghost use Rattle.mother_format.specs.Bank.{banks, block_limit, block_of};
-ghost use Rattle.mother_format.specs.Channel.{block_source, early_fault, sounding_of};
-ghost use Rattle.mother_check.specs.First.{window_for, first_tried, refused_first, is_outside, is_invalid, command_first, early_at};
+ghost use Rattle.mother_format.specs.Bank.{block_limit};
+ghost use Rattle.mother_format.specs.Channel.{of_block, sounding_of};
+ghost use Rattle.mother_check.specs.First.{window_for, first_tried, refused_first, is_outside, is_invalid, command_first, early_at, unless_found};
 
-use crate::faults;
-use crate::faults::{First, Site};
+use crate::faults::{Fault, Site};
 use crate::settings::Extremes;
-use engine_base::{bytes, field, refusal};
-use mother_format::bank::Places;
-use mother_format::command::{Command, Decoded, Kind, Rule};
-use mother_format::transpose::Sounding;
-use mother_format::{bank, channel, command, transpose};
+use crate::{faults, settings};
+use engine_base::refusal::Refusal;
+use engine_base::{bytes, field};
+use mother_format::channel::Source;
+use mother_format::command::{Command, Kind};
+use mother_format::{channel, command, transpose};
 
-// A refusal at an offset of a block: 10 to 15 name the address.
-fn refused(site: Site, start: u16, number: u32, at: u16) -> First
-    ensures { result ≡ refused_first site start number at }
-{
-    if number < refusal::INVALID_COMMAND {
-        return faults::fault_of(site, number, at, 0);
-    }
-    if refusal::PAST_DATA < number {
-        return faults::fault_of(site, number, at, 0);
-    }
-    faults::fault_of(site, number, at, start as u32 + at as u32)
+// A block where a channel's playlist names it, and what is set anywhere in the track.
+#[derive(Clone, Copy)]
+pub struct Visit<'a> {
+    pub source: Source<'a>,
+    pub site: Site,
+    pub extremes: Extremes,
 }
 
-fn is_outside(sounding: Sounding) -> bool
-    ensures { result ≡ is_outside sounding }
+// A refusal at an offset of a block: 10 to 15 name the address.
+fn refused(visit: Visit, refusal: Refusal, at: u16) -> Result<(), Fault>
+    ensures { result ≡ unless_found (refused_first visit.entry.site visit.entry.source.start refusal at) }
 {
-    match sounding {
-        Sounding::Byte(_) => false,
-        Sounding::Outside => true,
-    }
+    let address = channel::address_of(refusal, visit.source.start, at);
+    Err(faults::fault_at(visit.site, refusal, at, address))
 }
 
 // Whether a note's byte is out of range under a transpose: a preset never is.
@@ -40,152 +34,76 @@ fn is_unsounded(kind: Kind, b: u8, transpose: u8) -> bool
     ensures { result ≡ is_outside (sounding_of kind b transpose) }
 {
     match kind {
-        Kind::Square => is_outside(transpose::transposed(b, transpose)),
-        Kind::Triangle => is_outside(transpose::transposed(b, transpose)),
+        Kind::Square | Kind::Triangle => transpose::transposed(b, transpose).is_none(),
         Kind::Noise => false,
     }
 }
 
 // Whether a note's byte is out of range under the lowest or the highest transpose.
+#[tactic(auto, unfolding(crate::specs::First::is_invalid))]
 fn is_invalid(kind: Kind, b: u8, extremes: Extremes) -> bool
     ensures { result ≡ is_invalid kind extremes b }
 {
-    if is_unsounded(kind, b, extremes.low) {
-        return true;
-    }
-    is_unsounded(kind, b, extremes.high)
+    is_unsounded(kind, b, extremes.low) || is_unsounded(kind, b, extremes.high)
 }
 
 // What a command refuses at an offset, once its bytes are read.
-fn command_fault(
-    kind: Kind,
-    start: u16,
-    site: Site,
-    extremes: Extremes,
-    sized: bool,
-    at: u16,
-    command: Command,
-) -> First
+fn command_fault(visit: Visit, sized: bool, at: u16, command: Command) -> Result<(), Fault>
     requires { at < block_limit }
-    ensures { result ≡ command_first kind start site extremes sized at command }
+    ensures { result ≡ unless_found (command_first visit.entry.source.kind visit.entry.source.start visit.entry.site visit.entry.extremes sized at command) }
 {
+    let kind = visit.source.kind;
+    let extremes = visit.extremes;
     match command {
-        Command::End => First::Nothing,
-        Command::Transpose(m) => {
-            if transpose::is_odd(m) {
-                return refused(site, start, refusal::ODD_TRANSPOSE, at);
-            }
-            First::Nothing
+        Command::Transpose(m) if transpose::is_odd(m) => refused(visit, Refusal::OddTranspose, at),
+        Command::Length(_, b) if is_invalid(kind, b, extremes) => {
+            refused(visit, Refusal::InvalidNote, at + 1)
         }
-        Command::Window(_) => First::Nothing,
-        Command::EndLoop => First::Nothing,
-        Command::Length(_, b) => {
-            if is_invalid(kind, b, extremes) {
-                return refused(site, start, refusal::INVALID_NOTE, at + 1);
-            }
-            First::Nothing
+        Command::Note(b) if is_invalid(kind, b, extremes) => {
+            refused(visit, Refusal::InvalidNote, at)
         }
-        Command::BeginLoop(_) => First::Nothing,
-        Command::Timbre(_, _) => First::Nothing,
-        Command::Note(b) => {
-            if is_invalid(kind, b, extremes) {
-                return refused(site, start, refusal::INVALID_NOTE, at);
-            }
-            if sized {
-                return First::Nothing;
-            }
-            refused(site, start, refusal::NO_LENGTH, at)
-        }
+        Command::Note(_) if !sized => refused(visit, Refusal::NoLength, at),
+        _ => Ok(()),
     }
 }
 
 // The window under which a length index fails first, if the byte at an offset is one's.
-fn window_for<'a>(bank8: &'a [u8], banka: &'a [u8], start: u16, windows: [u8; 16], at: u16) -> u8
-    ensures { result ≡ window_for (block_of bank8.now banka.now start) windows at }
+#[tactic(auto, unfolding(crate::specs::First::window_for))]
+fn window_for(block: &[u8], windows: [u8; settings::INDEXES], at: u16) -> u8
+    ensures { result ≡ window_for block.now windows at }
 {
-    let block = bank::block(bank8, banka, start);
-    let l = field::low4(bytes::byte(block, at as usize));
-    windows[l as usize]
+    let l = field::low::<4>(bytes::byte(block, usize::from(at)));
+    windows[usize::from(l)]
 }
 
-// What a command refuses before its last byte is looked at, or 0.
-fn early_fault(
-    bank8: &[u8],
-    banka: &[u8],
-    places: Places,
-    kind: Kind,
-    block: &[u8],
-    window: u8,
-    at: u16,
-    rule: Rule,
-) -> u32
-    ensures { result ≡ early_fault (banks bank8.now banka.now) places kind block.now window at rule }
+// What a command refuses before its last byte is looked at, under the window that its length index fails with.
+#[tactic(auto, unfolding(crate::specs::First::early_at), using(crate::proofs::command_faults::Tests::early_is))]
+fn early_at(visit: Visit, at: u16) -> Result<(), Refusal>
+    ensures { result ≡ early_at (of_block visit.entry.source) visit.entry.extremes.windows at }
 {
-    match rule {
-        Rule::End => 0,
-        Rule::Transpose => 0,
-        Rule::Window => 0,
-        Rule::EndLoop => 0,
-        Rule::Length(l) => channel::length_fault(bank8, banka, places.note_lengths, window, l),
-        Rule::BeginLoop(_) => 0,
-        Rule::Timbre => {
-            let second = at as usize + 1;
-            if block.len() <= second {
-                return 0;
-            }
-            let x = block[second];
-            channel::timbre_fault(bank8, banka, places.envelope_addresses, kind, x)
-        }
-        Rule::Note => 0,
-        Rule::Invalid(_) => 0,
+    let block = visit.source.block();
+    let window = window_for(block, visit.extremes.windows, at);
+    match command::rule_of(visit.source.kind, bytes::byte(block, usize::from(at))) {
+        Ok(rule) => channel::early_fault(visit.source, window, at, rule),
+        Err(_) => Ok(()),
     }
-}
-
-// The same at an offset, under the window that its length index fails with.
-fn early_at<'a>(
-    bank8: &'a [u8],
-    banka: &'a [u8],
-    places: Places,
-    kind: Kind,
-    start: u16,
-    windows: [u8; 16],
-    at: u16,
-) -> u32
-    ensures { result ≡ early_at (block_source bank8.now banka.now places kind start) windows at }
-{
-    let block = bank::block(bank8, banka, start);
-    let window = window_for(bank8, banka, start, windows, at);
-    let rule = command::rule_of(kind, bytes::byte(block, at as usize));
-    early_fault(bank8, banka, places, kind, block, window, at, rule)
 }
 
 // The first fault of the command at an offset, under what is set anywhere in the track.
-pub(crate) fn fault_at<'a>(
-    bank8: &'a [u8],
-    banka: &'a [u8],
-    places: Places,
-    kind: Kind,
-    start: u16,
-    site: Site,
-    extremes: Extremes,
-    sized: bool,
-    at: u16,
-) -> First
-    ensures { result ≡ first_tried (block_source bank8.now banka.now places kind start) site extremes sized at }
+#[tactic(auto, using(crate::proofs::command_faults::Tests::past_tested, crate::proofs::command_faults::Tests::early_tested, crate::proofs::command_faults::Tests::command_tested, crate::proofs::command_faults::Tests::offset_small, crate::proofs::command_faults::Tests::refusal_fits))]
+pub(crate) fn first_tried(visit: Visit, sized: bool, at: u16) -> Result<(), Fault>
+    ensures { result ≡ unless_found (first_tried (of_block visit.entry.source) visit.entry.site visit.entry.extremes sized at) }
 {
-    let block = bank::block(bank8, banka, start);
-    if block.len() <= at as usize {
-        return refused(site, start, refusal::PAST_DATA, at);
+    let block = visit.source.block();
+    let index = usize::from(at);
+    if block.len() <= index {
+        return refused(visit, Refusal::PastData, at);
     }
-    let windows = extremes.windows;
-    let early = early_at(bank8, banka, places, kind, start, windows, at);
-    if early != 0 {
-        return refused(site, start, early, at);
+    if let Err(refusal) = early_at(visit, at) {
+        return refused(visit, refusal, at);
     }
-    match command::command_at(kind, block, at as usize) {
-        Decoded::Refused(number, offset) => refused(site, start, number, offset as u16),
-        Decoded::Found(command, _) => {
-            command_fault(kind, start, site, extremes, sized, at, command)
-        }
+    match command::command_at(visit.source.kind, block, index) {
+        Err((refusal, offset)) => refused(visit, refusal, offset as u16),
+        Ok((command, _)) => command_fault(visit, sized, at, command),
     }
 }

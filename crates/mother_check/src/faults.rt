@@ -1,17 +1,18 @@
 // The first fault of a track: channel by channel, place by place, command by command.
 ghost use Rattle.std.specs.Prelude.{◌≡◌};
 ghost use Rattle.mother_check.specs.Faults.{fault_at, end_fault, sized_after, first_of};
-ghost use Rattle.mother_check.specs.First.{block_first, read_of, channel_first, voices_first};
+ghost use Rattle.mother_check.specs.First.{block_first, read_of, unless_found, channel_first, voices_first};
 
+use crate::command_faults::Visit;
 use crate::reading::Progress;
 use crate::settings::Extremes;
 use crate::walk::Word;
 use crate::{command_faults, reading, walk};
-use engine_base::refusal;
-use mother_format::bank::Places;
-use mother_format::command::{Decoded, Kind};
+use engine_base::refusal::Refusal;
+use mother_format::bank::{Banks, Places};
+use mother_format::channel::Source;
 use mother_format::header::Voice;
-use mother_format::{bank, command, straight};
+use mother_format::{command, straight};
 
 // Where a fault stands: the channel, and the playlist's place.
 #[derive(Clone, Copy)]
@@ -22,7 +23,7 @@ pub struct Site {
 
 #[derive(Clone, Copy)]
 pub struct Fault {
-    pub number: u32,
+    pub refusal: Refusal,
     pub channel: u32,
     pub place: u32,
     // the offset in the block, 0 of 20
@@ -31,174 +32,115 @@ pub struct Fault {
     pub address: u32,
 }
 
-#[derive(Clone, Copy)]
-pub enum First {
-    Nothing,
-    Fault(Fault),
-}
-
-pub(crate) fn fault_of(site: Site, number: u32, at: u16, address: u32) -> First
-    ensures { result ≡ First.Fault (fault_at site number at address) }
+pub(crate) fn fault_at(site: Site, refusal: Refusal, at: u16, address: u32) -> Fault
+    ensures { result ≡ fault_at site refusal at address }
 {
-    First::Fault(Fault {
-        number,
+    Fault {
+        refusal,
         channel: site.channel,
         place: site.place,
         at,
         address,
-    })
+    }
 }
 
 // A block that ends without a note or rest, at its 00.
-fn end_fault(site: Site, noted: bool, at: u16) -> First
-    ensures { result ≡ first_of (end_fault site noted at) }
+#[tactic(auto, unfolding(crate::specs::Faults::first_of))]
+fn end_fault(site: Site, noted: bool, at: u16) -> Result<(), Fault>
+    ensures { result ≡ unless_found (first_of (end_fault site noted at)) }
 {
     if noted {
-        return First::Nothing;
-    }
-    fault_of(site, refusal::NO_NOTE, at, 0)
-}
-
-// A block's first fault, or whether a length stands before its end in playing order.
-#[derive(Clone, Copy)]
-pub enum BlockRead {
-    Faulty(Fault),
-    Clean(bool),
-}
-
-fn read_of(first: First, sized: bool) -> BlockRead
-    ensures { result ≡ read_of first sized }
-{
-    match first {
-        First::Nothing => BlockRead::Clean(sized),
-        First::Fault(fault) => BlockRead::Faulty(fault),
+        Ok(())
+    } else {
+        Err(fault_at(site, Refusal::NoNote, at, 0))
     }
 }
 
-// A block read straight, to its first fault.
-fn block_read<'a>(
-    bank8: &'a [u8],
-    banka: &'a [u8],
-    places: Places,
-    kind: Kind,
-    start: u16,
-    site: Site,
-    extremes: Extremes,
-    sized: bool,
-) -> BlockRead
-    ensures { result ≡ read_of (block_first bank8.now banka.now places kind start site extremes sized) (sized_after bank8.now banka.now kind start sized) }
+// A block read straight: its first fault, or whether a length stands before its end in playing order.
+#[tactic(auto, using(crate::proofs::faults::Laws::midblock_none, crate::proofs::faults::Laws::offset_fits, crate::proofs::faults::Laws::block_found, crate::proofs::faults::Laws::block_past))]
+fn block_read(visit: Visit, sized: bool) -> Result<bool, Fault>
+    ensures { result ≡ read_of
+        (block_first visit.entry.source.banks.bank8.now visit.entry.source.banks.banka.now visit.entry.source.places
+        visit.entry.source.kind visit.entry.source.start visit.entry.site visit.entry.extremes sized)
+        (sized_after visit.entry.source.banks.bank8.now visit.entry.source.banks.banka.now visit.entry.source.kind visit.entry.source.start sized) }
 {
-    let block = bank::block(bank8, banka, start);
+    let data = visit.source.block();
     let mut progress = Progress {
         noted: false,
         sized,
     };
-    let mut at: usize = 0;
-    let mut n: usize = 0;
-    while n < block.len() {
-        let first = command_faults::fault_at(
-            bank8,
-            banka,
-            places,
-            kind,
-            start,
-            site,
-            extremes,
-            progress.sized,
-            at as u16,
-        );
-        if let First::Fault(fault) = first {
-            return BlockRead::Faulty(fault);
+    let mut at = 0;
+    for _ in 0..data.len() {
+        command_faults::first_tried(visit, progress.sized, at as u16)?;
+        let Ok((command, next)) = command::command_at(visit.source.kind, data, at) else {
+            return Ok(progress.sized);
+        };
+        if straight::is_end(command) {
+            end_fault(visit.site, progress.noted, at as u16)?;
+            return Ok(progress.sized);
         }
-        match command::command_at(kind, block, at) {
-            Decoded::Refused(_, _) => return BlockRead::Clean(progress.sized),
-            Decoded::Found(command, next) => {
-                if straight::is_end(command) {
-                    return read_of(end_fault(site, progress.noted, at as u16), progress.sized);
-                }
-                progress = reading::past(progress, command);
-                at = next;
-                n += 1;
-            }
-        }
+        progress = reading::past(progress, command);
+        at = next;
     }
-    let first = command_faults::fault_at(
-        bank8,
-        banka,
-        places,
-        kind,
-        start,
-        site,
-        extremes,
-        progress.sized,
-        at as u16,
-    );
-    read_of(first, progress.sized)
+    command_faults::first_tried(visit, progress.sized, at as u16)?;
+    Ok(progress.sized)
 }
 
 // A channel's playlist in playing order, to its first fault.
-fn channel_first<'a>(
-    bank8: &'a [u8],
-    banka: &'a [u8],
+#[tactic(auto, using(crate::proofs::faults::Lists::list_past, crate::proofs::faults::Lists::list_done, crate::proofs::faults::Lists::list_bad))]
+fn channel_first(
+    banks: Banks,
     places: Places,
-    kind: Kind,
-    list: u16,
+    voice: Voice,
     channel: u32,
     extremes: Extremes,
-) -> First
-    ensures { result ≡ channel_first bank8.now banka.now places kind list channel extremes }
+) -> Result<(), Fault>
+    ensures { result ≡ unless_found (channel_first banks.entry.bank8.now banks.entry.banka.now places voice.kind voice.list channel extremes) }
 {
     let mut marks = [false; walk::ADDRESSES];
-    let mut spot = walk::first(list);
+    let mut spot = walk::first(voice.list);
     let mut sized = false;
-    let mut n: u32 = 0;
-    while n < walk::MOST_WORDS {
+    for n in 0..walk::MOST_WORDS {
         let site = Site { channel, place: n };
-        match walk::word_at(bank8, banka, spot, &mut marks) {
-            Word::Done => return First::Nothing,
-            Word::Bad => return fault_of(site, refusal::BAD_PLAYLIST, 0, 0),
-            Word::Goto(next) => {
+        match walk::word_at(banks, spot, &mut marks) {
+            Word::Done => return Ok(()),
+            Word::Bad => return Err(fault_at(site, Refusal::BadPlaylist, 0, 0)),
+            Word::Goto(next) => spot = next,
+            Word::Block(start, next) => {
+                let source = Source {
+                    banks,
+                    places,
+                    kind: voice.kind,
+                    start,
+                };
+                let visit = Visit {
+                    source,
+                    site,
+                    extremes,
+                };
+                sized = block_read(visit, sized)?;
                 spot = next;
-                n += 1;
-            }
-            Word::Block(block, next) => {
-                match block_read(bank8, banka, places, kind, block, site, extremes, sized) {
-                    BlockRead::Faulty(fault) => return First::Fault(fault),
-                    BlockRead::Clean(after) => {
-                        sized = after;
-                        spot = next;
-                        n += 1;
-                    }
-                }
             }
         }
     }
-    First::Nothing
+    Ok(())
 }
 
 // The channels in order, to the first fault.
-pub(crate) fn track_first<'a>(
-    bank8: &'a [u8],
-    banka: &'a [u8],
+#[tactic(auto, using(crate::proofs::faults::Lists::track_past, crate::proofs::faults::Lists::track_unused, crate::proofs::faults::Lists::track_found, crate::proofs::faults::Lists::track_clean))]
+pub(crate) fn track_first(
+    banks: Banks,
     places: Places,
-    voices: [Voice; 4],
+    voices: [Option<Voice>; 4],
     extremes: Extremes,
-) -> First
-    ensures { result ≡ voices_first bank8.now banka.now places 0 extremes voices }
+) -> Result<(), Fault>
+    ensures { result ≡ unless_found (voices_first banks.entry.bank8.now banks.entry.banka.now places 0 extremes voices) }
 {
-    let mut i: usize = 0;
-    while i < 4 {
-        let voice = voices[i];
-        let kind = voice.kind;
-        if voice.used {
-            let first = channel_first(bank8, banka, places, kind, voice.list, i as u32, extremes);
-            if let First::Fault(_) = first {
-                return first;
-            }
-            i += 1;
-        } else {
-            i += 1;
-        }
+    for (i, voice) in voices.iter().enumerate() {
+        let Some(voice) = *voice else {
+            continue;
+        };
+        channel_first(banks, places, voice, i as u32, extremes)?;
     }
-    First::Nothing
+    Ok(())
 }

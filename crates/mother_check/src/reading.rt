@@ -1,5 +1,5 @@
 // What stands before a command when its block is read straight.
-ghost use Rattle.std.specs.Prelude.{◌≡◌, true};
+ghost use Rattle.std.specs.Prelude.{◌≡◌};
 ghost use Rattle.mother_check.specs.Reading.{passed};
 
 use mother_format::command::Command;
@@ -12,25 +12,19 @@ pub struct Progress {
     pub sized: bool,
 }
 
-// Past a note or rest.
-fn past_note(sized: bool) -> Progress
-    ensures { result ≡ record { noted = true; sized = sized } }
-{
-    Progress { noted: true, sized }
-}
-
 // Past a command.
 pub(crate) fn past(progress: Progress, command: Command) -> Progress
     ensures { result ≡ passed progress command }
 {
     match command {
-        Command::End => progress,
-        Command::Transpose(_) => progress,
-        Command::Window(_) => progress,
-        Command::EndLoop => progress,
-        Command::Length(_, _) => past_note(true),
-        Command::BeginLoop(_) => progress,
-        Command::Timbre(_, _) => progress,
-        Command::Note(_) => past_note(progress.sized),
+        Command::Length(_, _) => Progress {
+            noted: true,
+            sized: true,
+        },
+        Command::Note(_) => Progress {
+            noted: true,
+            ..progress
+        },
+        _ => progress,
     }
 }

@@ -1,14 +1,15 @@
 // What is set anywhere in a track: the transposes of the lowest and highest amount, and the windows under which lengths fail.
 ghost use Rattle.std.specs.Prelude.{◌≡◌};
-ghost use Rattle.mother_format.specs.Bank.{banks};
+ghost use Rattle.mother_format.specs.Bank.{bytes_of};
 ghost use Rattle.mother_check.specs.Extremes.{rank_of, is_sooner, worse_window, with_transpose, with_window, with_command, with_block, with_channel, extremes_of};
 
 use crate::walk;
 use crate::walk::Word;
-use mother_format::bank::Places;
-use mother_format::command::{Command, Decoded, Kind};
-use mother_format::header::Track;
-use mother_format::{bank, channel, command, straight, transpose};
+use engine_base::refusal::Refusal;
+use mother_format::bank::{Banks, Places};
+use mother_format::command::{Command, Kind};
+use mother_format::header::{Track, Voice};
+use mother_format::{channel, command, straight, transpose};
 
 // So many length indexes has BL.
 pub(crate) const INDEXES: usize = 16;
@@ -19,20 +20,19 @@ pub struct Extremes {
     pub low: u8,
     pub high: u8,
     // for each length index a window under which it fails, with 12 if there is one; or any, if it never fails
-    pub windows: [u8; 16],
+    pub windows: [u8; INDEXES],
 }
 
 // A transpose's amount plus 128.
+#[tactic(auto, unfolding(crate::specs::Extremes::rank_of))]
 fn rank_of(b: u8) -> u8
     ensures { result ≡ rank_of b }
 {
-    if b < 0x80 {
-        return b + 0x80;
-    }
-    0xff - b
+    if b < 0x80 { b + 0x80 } else { 0xff - b }
 }
 
 // An odd transpose sets nothing.
+#[tactic(auto, unfolding(crate::specs::Extremes::with_transpose))]
 fn with_transpose(mut e: Extremes, m: u8) -> Extremes
     ensures { result ≡ with_transpose e m }
 {
@@ -48,149 +48,101 @@ fn with_transpose(mut e: Extremes, m: u8) -> Extremes
     e
 }
 
-// Whether a length's number of refusal, or 0, comes before another's.
-fn is_sooner(a: u32, b: u32) -> bool
+// Whether a length is refused, and before another.
+fn is_sooner(a: Result<(), Refusal>, b: Result<(), Refusal>) -> bool
     ensures { result ≡ is_sooner a b }
 {
-    if a == 0 {
-        return false;
+    match (a, b) {
+        (Ok(()), _) => false,
+        (Err(_), Ok(())) => true,
+        (Err(a), Err(b)) => a.number() < b.number(),
     }
-    if b == 0 {
-        return true;
-    }
-    a < b
 }
 
 // Of two windows the one under which a length index fails first.
-fn worse_window(bank8: &[u8], banka: &[u8], table: u32, l: u8, window: u8, t: u8) -> u8
-    ensures { result ≡ worse_window (banks bank8.now banka.now) table l window t }
+#[tactic(auto, unfolding(crate::specs::Extremes::worse_window))]
+fn worse_window(banks: Banks, table: u32, l: u8, window: u8, t: u8) -> u8
+    ensures { result ≡ worse_window (bytes_of banks.entry) table l window t }
 {
-    let now = channel::length_fault(bank8, banka, table, window, l);
-    let then = channel::length_fault(bank8, banka, table, t, l);
-    if is_sooner(then, now) {
-        return t;
-    }
-    window
+    let now = channel::length_fault(banks, table, window, l);
+    let then = channel::length_fault(banks, table, t, l);
+    if is_sooner(then, now) { t } else { window }
 }
 
-fn with_window(bank8: &[u8], banka: &[u8], table: u32, e: Extremes, t: u8) -> Extremes
-    ensures { result ≡ with_window (banks bank8.now banka.now) table e t }
+#[tactic(auto, unfolding(crate::specs::Extremes::with_window), using(crate::proofs::settings::Laws::worsening_none, crate::proofs::settings::Laws::worsening_more, crate::proofs::settings::Laws::worsened))]
+fn with_window(banks: Banks, table: u32, mut e: Extremes, t: u8) -> Extremes
+    ensures { result ≡ with_window (bytes_of banks.entry) table e t }
 {
-    let low = e.low;
-    let high = e.high;
-    let mut windows = e.windows;
-    let mut l: usize = 0;
-    while l < INDEXES {
-        let window = windows[l];
-        let worse = worse_window(bank8, banka, table, l as u8, window, t);
-        windows[l] = worse;
-        l += 1;
+    for (l, window) in e.windows.iter_mut().enumerate() {
+        *window = worse_window(banks, table, l as u8, *window, t);
     }
-    Extremes { low, high, windows }
+    e
 }
 
-fn with_command(bank8: &[u8], banka: &[u8], table: u32, e: Extremes, command: Command) -> Extremes
-    ensures { result ≡ with_command (banks bank8.now banka.now) table e command }
+fn with_command(banks: Banks, table: u32, e: Extremes, command: Command) -> Extremes
+    ensures { result ≡ with_command (bytes_of banks.entry) table e command }
 {
     match command {
-        Command::End => e,
         Command::Transpose(m) => with_transpose(e, m),
-        Command::Window(t) => with_window(bank8, banka, table, e, t),
-        Command::EndLoop => e,
-        Command::Length(_, _) => e,
-        Command::BeginLoop(_) => e,
-        Command::Timbre(_, _) => e,
-        Command::Note(_) => e,
+        Command::Window(t) => with_window(banks, table, e, t),
+        _ => e,
     }
 }
 
 // With what a block sets, read straight up to its stop.
-fn with_block<'a>(
-    bank8: &'a [u8],
-    banka: &'a [u8],
-    table: u32,
-    kind: Kind,
-    start: u16,
-    given: Extremes,
-) -> Extremes
-    ensures { result ≡ with_block bank8.now banka.now table kind start given }
+#[tactic(auto, unfolding(crate::specs::Extremes::with_block), using(crate::proofs::settings::Laws::gathering_none, crate::proofs::settings::Laws::gathered_past, crate::proofs::settings::Laws::gathered_refused, crate::proofs::settings::Laws::gathered_end, crate::proofs::settings::Laws::gathering_more))]
+fn with_block(banks: Banks, table: u32, kind: Kind, start: u16, mut e: Extremes) -> Extremes
+    ensures { result ≡ with_block banks.entry.bank8.now banks.entry.banka.now table kind start e }
 {
-    let block = bank::block(bank8, banka, start);
-    let mut e = given;
-    let mut at: usize = 0;
-    let mut n: usize = 0;
-    while n < block.len() {
-        match command::command_at(kind, block, at) {
-            Decoded::Refused(_, _) => return e,
-            Decoded::Found(command, next) => {
-                if straight::is_end(command) {
-                    return e;
-                }
-                e = with_command(bank8, banka, table, e, command);
-                at = next;
-                n += 1;
-            }
+    let block = banks.block(start);
+    let mut at = 0;
+    for _ in 0..block.len() {
+        let Ok((command, next)) = command::command_at(kind, block, at) else {
+            return e;
+        };
+        if straight::is_end(command) {
+            return e;
         }
+        e = with_command(banks, table, e, command);
+        at = next;
     }
     e
 }
 
 // With what the blocks of a channel set.
-fn with_channel<'a>(
-    bank8: &'a [u8],
-    banka: &'a [u8],
-    table: u32,
-    kind: Kind,
-    list: u16,
-    given: Extremes,
-) -> Extremes
-    ensures { result ≡ with_channel bank8.now banka.now table kind list given }
+// The walk of `channel_first` with another body: what each does at a block ends it or not, and a closure over the marks is no plainer.
+fn with_channel(banks: Banks, table: u32, voice: Voice, mut e: Extremes) -> Extremes
+    ensures { result ≡ with_channel banks.entry.bank8.now banks.entry.banka.now table voice.kind voice.list e }
 {
     let mut marks = [false; walk::ADDRESSES];
-    let mut e = given;
-    let mut spot = walk::first(list);
-    let mut n: u32 = 0;
-    while n < walk::MOST_WORDS {
-        match walk::word_at(bank8, banka, spot, &mut marks) {
-            Word::Done => return e,
-            Word::Bad => return e,
-            Word::Goto(next) => {
-                spot = next;
-                n += 1;
-            }
+    let mut spot = walk::first(voice.list);
+    for _ in 0..walk::MOST_WORDS {
+        match walk::word_at(banks, spot, &mut marks) {
+            Word::Done | Word::Bad => return e,
+            Word::Goto(next) => spot = next,
             Word::Block(block, next) => {
-                e = with_block(bank8, banka, table, kind, block, e);
+                e = with_block(banks, table, voice.kind, block, e);
                 spot = next;
-                n += 1;
             }
         }
     }
     e
 }
 
-pub(crate) fn extremes_of<'a>(
-    bank8: &'a [u8],
-    banka: &'a [u8],
-    places: Places,
-    track: Track,
-) -> Extremes
-    ensures { result ≡ extremes_of bank8.now banka.now places track }
+#[tactic(auto, unfolding(crate::specs::Extremes::extremes_of), using(crate::proofs::settings::Laws::visiting_used, crate::proofs::settings::Laws::visiting_unused, crate::proofs::settings::Laws::visited))]
+pub(crate) fn extremes_of(banks: Banks, places: Places, track: Track) -> Extremes
+    ensures { result ≡ extremes_of banks.entry.bank8.now banks.entry.banka.now places track }
 {
-    let low = track.transpose;
-    let voices = track.voices;
+    let transpose = track.transpose;
     let mut e = Extremes {
-        low,
-        high: low,
-        windows: [track.window; 16],
+        low: transpose,
+        high: transpose,
+        windows: [track.window; INDEXES],
     };
-    let mut i: usize = 0;
-    while i < 4 {
-        let voice = voices[i];
-        let kind = voice.kind;
-        if voice.used {
-            e = with_channel(bank8, banka, places.note_lengths, kind, voice.list, e);
+    for voice in &track.voices {
+        if let Some(voice) = voice {
+            e = with_channel(banks, places.note_lengths, *voice, e);
         }
-        i += 1;
     }
     e
 }

@@ -1,41 +1,43 @@
 // Whether a track can be played through, found from its bytes: no frame is run.
 ghost use Rattle.std.specs.Prelude.{◌≡◌};
-ghost use Rattle.mother_check.specs.Verdict.{verdict_by};
+ghost use Rattle.mother_check.specs.Verdict.{verdict_of};
 ghost use Rattle.mother_check.specs.Run.{Judged};
 
-use crate::faults::{Fault, First};
+use crate::faults::Fault;
 use crate::{faults, settings};
-use mother_format::bank::Places;
+use engine_base::refusal::Refusal;
+use mother_format::bank::{Banks, Places};
 use mother_format::header;
 
+// No Result of the other cases: the definitions and laws go by all of them side by side.
 #[derive(Clone, Copy)]
 pub enum Verdict {
     Pass,
     // 1 to 4, 8, 9 and 19, of banks, places, track number and header
-    Refused(u32),
+    Refused(Refusal),
     // a playlist or a block
     Fault(Fault),
 }
 
-fn verdict_of(first: First) -> Verdict
-    ensures { result ≡ verdict_by first }
+// Two slices in place of `Banks`: of a slice parameter a proof has that its elements are bytes (below 256), of a struct's field not.
+fn verdict_of(bank8: &[u8], banka: &[u8], places: Places, track: u32) -> Verdict
+    ensures { result ≡ verdict_of bank8.now banka.now places track }
 {
-    match first {
-        First::Nothing => Verdict::Pass,
-        First::Fault(fault) => Verdict::Fault(fault),
+    let banks = Banks { bank8, banka };
+    let found = match header::open(banks, places, track) {
+        Ok(found) => found,
+        Err(refusal) => return Verdict::Refused(refusal),
+    };
+    let extremes = settings::extremes_of(banks, places, found);
+    match faults::track_first(banks, places, found.voices, extremes) {
+        Ok(()) => Verdict::Pass,
+        Err(fault) => Verdict::Fault(fault),
     }
 }
 
-pub fn check<'a>(bank8: &'a [u8], banka: &'a [u8], places: Places, track: u32) -> Verdict
-    ensures { Judged bank8.now banka.now places track result }
+#[tactic(auto, using(crate::proofs::verdict::Laws::judged))]
+pub fn check(banks: Banks, places: Places, track: u32) -> Verdict
+    ensures { Judged banks.entry.bank8.now banks.entry.banka.now places track result }
 {
-    let opened = header::open(bank8, banka, places, track);
-    let number = opened.number;
-    if number == 0 {
-        let found = opened.track;
-        let extremes = settings::extremes_of(bank8, banka, places, found);
-        let voices = found.voices;
-        return verdict_of(faults::track_first(bank8, banka, places, voices, extremes));
-    }
-    Verdict::Refused(number)
+    verdict_of(banks.bank8, banks.banka, places, track)
 }

@@ -1,9 +1,10 @@
 // The words of a channel's playlist in playing order, each goto's target looked at once.
-ghost use Rattle.std.specs.Prelude.{◌≡◌, length};
-ghost use Rattle.mother_format.specs.Bank.{banks};
-ghost use Rattle.mother_check.specs.Walk.{addresses, first_spot, word_at, marks_at};
+ghost use Rattle.std.specs.Prelude.{◌≡◌};
+ghost use Rattle.mother_format.specs.Bank.{bytes_of};
+ghost use Rattle.mother_check.specs.Walk.{first_spot, word_at, marks_at};
 
 use engine_base::address;
+use mother_format::bank::Banks;
 use mother_format::playlist;
 use mother_format::playlist::Entry;
 
@@ -25,6 +26,7 @@ pub struct Spot {
 }
 
 // What it says.
+// No Result of the other cases: the definitions and laws go by all of them side by side.
 #[derive(Clone, Copy)]
 pub enum Word {
     // the playlist's end, or a goto to where one has led before
@@ -49,17 +51,20 @@ pub(crate) fn first(list: u16) -> Spot
 }
 
 // The word at a spot; where a goto leads is marked.
-pub(crate) fn word_at(bank8: &[u8], banka: &[u8], spot: Spot, marks: &mut [bool]) -> Word
-    requires { length marks.old ≡ addresses }
-    ensures { (result ≡ word_at (banks bank8.now banka.now) spot marks.old)
-        × (marks.new ≡ marks_at (banks bank8.now banka.now) spot marks.old) }
+#[tactic(auto, using(crate::proofs::walk::Laws::target_fits, crate::proofs::walk::Laws::row_fits, crate::proofs::walk::Laws::answers_word, crate::proofs::walk::Laws::goes_marked, crate::proofs::walk::Laws::goes_unmarked))]
+pub(crate) fn word_at(banks: Banks, spot: Spot, marks: &mut [bool; ADDRESSES]) -> Word
+    ensures { (result ≡ word_at (bytes_of banks.entry) spot marks.old)
+        × (marks.new ≡ marks_at (bytes_of banks.entry) spot marks.old) }
 {
     let row = spot.row;
-    let entry = playlist::entry_at(bank8, banka, spot.list, row, spot.by_goto);
+    let Ok(entry) = playlist::entry_at(banks, spot.list, row, spot.by_goto) else {
+        return Word::Bad;
+    };
     match entry {
         Entry::End => Word::Done,
         Entry::Goto(target) => {
             let at = address::offset_of(target as usize);
+            // no `let mark = &mut marks[at]`: tried, and for the early return the array given back was not proved to be the old one
             if marks[at] {
                 return Word::Done;
             }
@@ -80,6 +85,5 @@ pub(crate) fn word_at(bank8: &[u8], banka: &[u8], spot: Spot, marks: &mut [bool]
                 },
             )
         }
-        Entry::Refused => Word::Bad,
     }
 }

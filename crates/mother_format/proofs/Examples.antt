@@ -11,17 +11,18 @@ use Rattle.mother_format.specs.Transpose.{amount_of, is_odd, transposed_of}
 use Rattle.mother_format.specs.Header.{is_unused, address_fits, addresses_fit, all_unused, header_number, voice_of, voices_of, track_of}
 use Rattle.mother_format.specs.Playlist.{goto_at, entry_at}
 use Rattle.mother_format.specs.Command.{is_key, is_preset, melodic_rule, noise_rule, rule_of, note_after, timbre_after, command_at, bytes_of}
-use Rattle.mother_format.specs.Straight.{Placed, straight_from, straight}
+use Rattle.mother_format.specs.Straight.{Finish, Placed, straight_from, straight}
 use Rattle.mother_format.specs.Channel.{length_at, length_fault}
 use Rattle.mother_format.specs.declared.bank.Tracks.TheVariants.{Low}
 use Rattle.mother_format.specs.declared.command.Kind.{Kind}
 use Rattle.mother_format.specs.declared.command.Kind.TheVariants.{Square, Triangle, Noise}
 use Rattle.mother_format.specs.declared.header.Voice.{Voice}
 use Rattle.mother_format.specs.declared.header.Track.{Track}
-use Rattle.mother_format.specs.declared.playlist.Entry.TheVariants.{End, Goto, Block, Refused}
-use Rattle.mother_format.specs.declared.straight.Finish.{Finish}
-use Rattle.mother_format.specs.declared.straight.Finish.TheVariants.{End as Ended, Refused as Faulty}
-use Rattle.mother_format.specs.declared.transpose.Sounding.TheVariants.{Byte, Outside}
+use Rattle.mother_format.specs.declared.playlist.Entry.{Entry}
+use Rattle.mother_format.specs.declared.playlist.Entry.TheVariants.{End, Goto, Block}
+use Rattle.std.specs.Prelude.{Option, Some, None, Result, Ok, Err}
+use Rattle.engine_base.specs.declared.refusal.Refusal.{Refusal}
+use Rattle.engine_base.specs.declared.refusal.Refusal.TheVariants.{InvalidCommand, InvalidNote, PastLengths, ZeroLength, PastData, BadPlaylist}
 
 abbrev zeros : ℕ → List ℕ → List ℕ
 zeros zero rest = rest
@@ -35,8 +36,8 @@ bank_with address bytes = zeros (address - bank_start) bytes
 abbrev header : List ℕ
 header = 0x81 ∷ 0x0c ∷ 0x8f ∷ 0x99 ∷ 0x97 ∷ 0x99 ∷ 0x9f ∷ 0x99 ∷ 0xa7 ∷ 0x99 ∷ []
 
-abbrev playing : Kind → ℕ → Voice
-playing kind list = record { used = true; kind = kind; list = list }
+abbrev playing : Kind → ℕ → Option Voice
+playing kind list = Some (record { kind = kind; list = list })
 
 abbrev track : Track
 track = record {
@@ -45,7 +46,7 @@ track = record {
   voices = playing Square 0x998f ∷ playing Square 0x9997 ∷ playing Triangle 0x999f ∷ playing Noise 0x99a7 ∷ [];
 }
 
-header_right : (header_number header 0 ≡ 0) × (track_of header 0 ≡ track)
+header_right : (header_number header 0 ≡ Ok tt) × (track_of header 0 ≡ track)
 unfolding within word_at amount_of is_odd is_unused address_fits addresses_fit all_unused header_number voice_of voices_of track_of
 header_right = (refl, refl)
 
@@ -60,7 +61,7 @@ odd_right = refl
 
 -- after 9C 83 a 06 resolves to a rest; a rest is not transposed; 00 and $86 fall out of the table
 transposed_right : map (λ b. transposed_of b 0x83) (0x06 ∷ 0x02 ∷ 0x08 ∷ 0x00 ∷ 0x88 ∷ 0x8a ∷ []) ≡
-    Byte 0x02 ∷ Byte 0x02 ∷ Byte 0x04 ∷ Outside ∷ Byte 0x84 ∷ Outside ∷ []
+    Some 0x02 ∷ Some 0x02 ∷ Some 0x04 ∷ None ∷ Some 0x84 ∷ None ∷ []
 unfolding amount_of transposed_of
 transposed_right = refl
 
@@ -73,11 +74,15 @@ lists =
     ∷ 0x2f ∷ 0xb1 ∷ 0x00 ∷ 0x00 ∷ [])
 
 lists_right : map (λ list. entry_at lists list 0 false) (0xb0f8 ∷ 0xb0fa ∷ 0xb0fc ∷ 0xb100 ∷ 0xb102 ∷ 0xb104 ∷ 0xb108 ∷ 0xb10a ∷ []) ≡
-    Block 0xb10c 0xb0fa ∷ Block 0xb115 0xb0fc ∷ Goto 0xb102
+    map Ok
+    (Block 0xb10c 0xb0fa ∷ Block 0xb115 0xb0fc ∷ Goto 0xb102
     ∷ Block 0xb112 0xb102 ∷ Block 0xb11f 0xb104 ∷ Goto 0xb102
-    ∷ Block 0xb12f 0xb10a ∷ End ∷ []
+    ∷ Block 0xb12f 0xb10a ∷ End ∷ [])
 unfolding within word_at goto_at entry_at
 lists_right = refl
+
+abbrev refused : Result Entry Refusal
+refused = Err BadPlaylist
 
 -- a goto that a goto leads to, a 257th block word in a row, words outside the banks, and ends and gotos by their high byte alone
 edges-right :
@@ -85,7 +90,7 @@ edges-right :
     ∷ entry_at (bank_with 0x9fff (0x34 ∷ 0x00 ∷ [])) 0x9fff 0 false ∷ entry_at (bank_with 0x9fff (0x34 ∷ 0xff ∷ 0xff ∷ 0xbf ∷ [])) 0x9fff 0 false
     ∷ entry_at (bank_with 0x8000 (0x00 ∷ 0xff ∷ 0x00 ∷ 0xc0 ∷ [])) 0x8000 0 false ∷ entry_at (bank_with 0x8000 (0xff ∷ 0x7f ∷ [])) 0x8000 0 false
     ∷ []) ≡
-    Refused ∷ Block 0xb10c 0xb0fa ∷ Refused ∷ Refused ∷ End ∷ Goto 0xbfff ∷ Refused ∷ Refused ∷ []
+    refused ∷ Ok (Block 0xb10c 0xb0fa) ∷ refused ∷ refused ∷ Ok End ∷ Ok (Goto 0xbfff) ∷ refused ∷ refused ∷ []
 unfolding within word_at goto_at entry_at
 edges-right = refl
 
@@ -112,23 +117,23 @@ examples : List Example
 examples =
     example Square (0x9f ∷ 0xb3 ∷ 0x31 ∷ 0xd2 ∷ 0xb2 ∷ 0x1a ∷ 0x1a ∷ 0x1a ∷ 0xb1 ∷ 0x1a ∷ 0x1c ∷ 0xff ∷ 0x00 ∷ [])
     ((0, 0x9f ∷ 0xb3 ∷ 0x31 ∷ []) ∷ (3, 0xd2 ∷ []) ∷ (4, 0xb2 ∷ 0x1a ∷ []) ∷ (6, 0x1a ∷ []) ∷ (7, 0x1a ∷ []) ∷ (8, 0xb1 ∷ 0x1a ∷ []) ∷ (10, 0x1c ∷ []) ∷ (11, 0xff ∷ []) ∷ [])
-    (Ended 12)
+    (Ok 12)
     ∷ example Triangle (0x9f ∷ 0xa0 ∷ 0x00 ∷ 0xb7 ∷ 0x24 ∷ 0xb0 ∷ 0x02 ∷ 0x00 ∷ [])
     ((0, 0x9f ∷ 0xa0 ∷ 0x00 ∷ []) ∷ (3, 0xb7 ∷ 0x24 ∷ []) ∷ (5, 0xb0 ∷ 0x02 ∷ []) ∷ [])
-    (Ended 7)
+    (Ok 7)
     ∷ example Noise (0xd4 ∷ 0xb2 ∷ 0x41 ∷ 0x44 ∷ 0x41 ∷ 0x07 ∷ 0xff ∷ 0x00 ∷ [])
     ((0, 0xd4 ∷ []) ∷ (1, 0xb2 ∷ 0x41 ∷ []) ∷ (3, 0x44 ∷ []) ∷ (4, 0x41 ∷ []) ∷ (5, 0x07 ∷ []) ∷ (6, 0xff ∷ []) ∷ [])
-    (Ended 7)
-    ∷ example Square (0x9c ∷ 0x8d ∷ 0x00 ∷ []) ((0, 0x9c ∷ 0x8d ∷ []) ∷ []) (Ended 2)
+    (Ok 7)
+    ∷ example Square (0x9c ∷ 0x8d ∷ 0x00 ∷ []) ((0, 0x9c ∷ 0x8d ∷ []) ∷ []) (Ok 2)
     -- directly after BL a 00 is a key, and an odd byte none; an odd transpose and a key out of range are read on
     ∷ example Square (0xb0 ∷ 0x00 ∷ 0x9c ∷ 0x80 ∷ 0xae ∷ 0xb0 ∷ 0x81 ∷ 0x00 ∷ [])
     ((0, 0xb0 ∷ 0x00 ∷ []) ∷ (2, 0x9c ∷ 0x80 ∷ []) ∷ (4, 0xae ∷ []) ∷ [])
-    (Faulty 11 6)
-    ∷ example Square (0x9e ∷ 0x18 ∷ 0xa1 ∷ []) ((0, 0x9e ∷ 0x18 ∷ []) ∷ []) (Faulty 10 2)
-    ∷ example Triangle (0x03 ∷ []) [] (Faulty 11 0)
-    ∷ example Noise (0xb0 ∷ 0x9c ∷ 0x9f ∷ []) ((0, 0xb0 ∷ 0x9c ∷ []) ∷ []) (Faulty 10 2)
-    ∷ example Noise (0x03 ∷ []) [] (Faulty 11 0)
-    ∷ example Triangle (0x9f ∷ 0x0a ∷ []) [] (Faulty 15 2)
+    (Err (InvalidNote, 6))
+    ∷ example Square (0x9e ∷ 0x18 ∷ 0xa1 ∷ []) ((0, 0x9e ∷ 0x18 ∷ []) ∷ []) (Err (InvalidCommand, 2))
+    ∷ example Triangle (0x03 ∷ []) [] (Err (InvalidNote, 0))
+    ∷ example Noise (0xb0 ∷ 0x9c ∷ 0x9f ∷ []) ((0, 0xb0 ∷ 0x9c ∷ []) ∷ []) (Err (InvalidCommand, 2))
+    ∷ example Noise (0x03 ∷ []) [] (Err (InvalidNote, 0))
+    ∷ example Triangle (0x9f ∷ 0x0a ∷ []) [] (Err (PastData, 2))
     ∷ []
 
 examples_right : map found examples ≡ map expected examples
@@ -149,11 +154,11 @@ lengths =
 abbrev table : ℕ
 table = (published Low).note_lengths
 
-abbrev timed : ℕ × ℕ → ℕ × ℕ
+abbrev timed : ℕ × ℕ → Result (Unit {0}) Refusal × ℕ
 timed (window, l) = (length_fault (bank_with table lengths) table window l, length_at (bank_with table lengths) table window l)
 
 -- of the blocks above at +4c, and at +28 and +18; then entry 103, the one behind it, and a length of 0
 lengths_right : map timed ((0x4c, 2) ∷ (0x4c, 1) ∷ (0x4c, 7) ∷ (0x4c, 0) ∷ (0x28, 3) ∷ (0x18, 3) ∷ (0x18, 1) ∷ (0x5a, 13) ∷ (0x5a, 14) ∷ (0x18, 14) ∷ []) ≡
-    (0, 40) ∷ (0, 20) ∷ (0, 30) ∷ (0, 10) ∷ (0, 56) ∷ (0, 48) ∷ (0, 12) ∷ (0, 23) ∷ (12, 0) ∷ (13, 0) ∷ []
+    (Ok tt, 40) ∷ (Ok tt, 20) ∷ (Ok tt, 30) ∷ (Ok tt, 10) ∷ (Ok tt, 56) ∷ (Ok tt, 48) ∷ (Ok tt, 12) ∷ (Ok tt, 23) ∷ (Err PastLengths, 0) ∷ (Err ZeroLength, 0) ∷ []
 unfolding length_at length_fault
 lengths_right = refl

@@ -2,6 +2,7 @@
 use Rattle.std.specs.Prelude.{ℕ, ◌-◌, ◌*◌, List, ◌++◌, ltb, length, take, drop}
 use Rattle.engine_base.specs.Pick.{pick}
 use Rattle.engine_base.specs.Address.{offset_of}
+use Rattle.mother_format.specs.declared.bank.Banks.{Banks}
 use Rattle.mother_format.specs.declared.bank.Places.{Places}
 use Rattle.mother_format.specs.declared.bank.Tracks.{Tracks}
 use Rattle.mother_format.specs.declared.bank.Tracks.TheVariants.{Low, High}
@@ -12,6 +13,10 @@ bank_size = 8192
 -- $8000 to $9fff, then $a000 to $bfff: where bytes and words are found, address by address
 abbrev pub banks : List ℕ → List ℕ → List ℕ
 banks bank8 banka = bank8 ++ banka
+
+-- of two banks as they are lent
+abbrev pub bytes_of : Banks → List ℕ
+bytes_of b = banks b.bank8.now b.banka.now
 
 abbrev pub block_limit : ℕ
 block_limit = 256

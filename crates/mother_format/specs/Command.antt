@@ -1,14 +1,18 @@
 -- Document 003, 'Channel Data Format': its list, the first rule that fits.
-use Rattle.std.specs.Prelude.{ℕ, ◌+◌, ◌/◌, ◌%◌, Bool, true, false, List, [], ◌∷◌, leb, ltb, eqb, length, get_or}
+use Rattle.std.specs.Prelude.{ℕ, ◌+◌, ◌/◌, ◌%◌, Bool, true, false, List, [], ◌∷◌, leb, ltb, eqb, length, get_or, Result, Ok, Err}
 use Rattle.engine_base.specs.Pick.{pick}
 use Rattle.engine_base.specs.Told.{Told}
-use Rattle.engine_base.specs.Refusal.{invalid_command, invalid_note, past_data}
+use Rattle.engine_base.specs.Refusal.{number_of}
+use Rattle.engine_base.specs.declared.refusal.Refusal.{Refusal}
+use Rattle.engine_base.specs.declared.refusal.Refusal.TheVariants.{InvalidCommand, InvalidNote, PastData}
 use Rattle.mother_format.specs.declared.command.Kind.{Kind}
 use Rattle.mother_format.specs.declared.command.Kind.TheVariants.{Square, Triangle, Noise}
 use Rattle.mother_format.specs.declared.command.Rule.{Rule}
 use Rattle.mother_format.specs.declared.command.Command.{Command}
-use Rattle.mother_format.specs.declared.command.Decoded.{Decoded}
-use Rattle.mother_format.specs.declared.command.Decoded.TheVariants.{Found, Refused}
+
+-- the command and the offset after it, or the refusal and the offset of the byte
+abbrev pub Decoded : Type 0
+Decoded = Result (Command × ℕ) (Refusal × ℕ)
 
 -- kkkk kkk0
 unfoldable pub is_key : ℕ → Bool
@@ -31,57 +35,57 @@ is_note Triangle b = is_key b
 is_note Noise b = is_preset b
 
 -- squares and triangle: 9f, then keys
-unfoldable pub melodic_rule : ℕ → Rule
+unfoldable pub melodic_rule : ℕ → Result Rule Refusal
 melodic_rule b =
-    pick (eqb b 0x9f) Rule.Timbre
-    (pick (is_key b) Rule.Note
-    (pick (ltb b 0x80) (Rule.Invalid invalid_note) (Rule.Invalid invalid_command)))
+    pick (eqb b 0x9f) (Ok Rule.Timbre)
+    (pick (is_key b) (Ok Rule.Note)
+    (pick (ltb b 0x80) (Err InvalidNote) (Err InvalidCommand)))
 
 -- noise: presets, and no 9f
-unfoldable pub noise_rule : ℕ → Rule
+unfoldable pub noise_rule : ℕ → Result Rule Refusal
 noise_rule b =
-    pick (eqb b 0x9f) (Rule.Invalid invalid_command)
-    (pick (is_preset b) Rule.Note (Rule.Invalid invalid_note))
+    pick (eqb b 0x9f) (Err InvalidCommand)
+    (pick (is_preset b) (Ok Rule.Note) (Err InvalidNote))
 
-abbrev pub own_rule : Kind → ℕ → Rule
+abbrev pub own_rule : Kind → ℕ → Result Rule Refusal
 own_rule Square b = melodic_rule b
 own_rule Triangle b = melodic_rule b
 own_rule Noise b = noise_rule b
 
--- the rule for a byte where a command stands
-unfoldable pub rule_of : Kind → ℕ → Rule
+-- the rule for a byte where a command stands, or 10 or 11
+unfoldable pub rule_of : Kind → ℕ → Result Rule Refusal
 rule_of kind b =
-    pick (eqb b 0x00) Rule.End
-    (pick (eqb b 0x9c) Rule.Transpose
-    (pick (eqb b 0x9e) Rule.Window
-    (pick (eqb b 0xff) Rule.EndLoop
-    (pick (eqb (b / 16) 0x0b) (Rule.Length (b % 16))
-    (pick (eqb (b / 64) 3) (Rule.BeginLoop (b % 64))
+    pick (eqb b 0x00) (Ok Rule.End)
+    (pick (eqb b 0x9c) (Ok Rule.Transpose)
+    (pick (eqb b 0x9e) (Ok Rule.Window)
+    (pick (eqb b 0xff) (Ok Rule.EndLoop)
+    (pick (eqb (b / 16) 0x0b) (Ok (Rule.Length (b % 16)))
+    (pick (eqb (b / 64) 3) (Ok (Rule.BeginLoop (b % 64)))
     (own_rule kind b))))))
 
 -- a byte that a command needs, or 15
-abbrev pub needed : List ℕ → ℕ → (ℕ → Decoded) → Decoded
-needed bytes at go = pick (leb (length bytes) at) (Refused past_data at) (go (get_or bytes at 0))
+abbrev pub needed : {A : Type 0} → List ℕ → ℕ → (ℕ → Result A (Refusal × ℕ)) → Result A (Refusal × ℕ)
+needed bytes at go = pick (leb (length bytes) at) (Err (PastData, at)) (go (get_or bytes at 0))
 
 -- what stands directly after BL is a key byte or preset whatever it is
 unfoldable pub note_after : Kind → List ℕ → ℕ → ℕ → Decoded
 note_after kind bytes at l =
-    needed bytes at (λ b. pick (is_note kind b) (Found (Command.Length l b) (at + 1)) (Refused invalid_note at))
+    needed bytes at (λ b. pick (is_note kind b) (Ok (Command.Length l b, at + 1)) (Err (InvalidNote, at)))
 
 unfoldable pub timbre_after : List ℕ → ℕ → Decoded
-timbre_after bytes at = needed bytes at (λ x. needed bytes (at + 1) (λ c. Found (Command.Timbre x c) (at + 1 + 1)))
+timbre_after bytes at = needed bytes at (λ x. needed bytes (at + 1) (λ c. Ok (Command.Timbre x c, at + 1 + 1)))
 
--- the command whose first byte stands at an offset and has a rule
-abbrev pub command_by : Kind → List ℕ → ℕ → Rule → Decoded
-command_by kind bytes at Rule.End = Found Command.End (at + 1)
-command_by kind bytes at Rule.Transpose = needed bytes (at + 1) (λ m. Found (Command.Transpose m) (at + 1 + 1))
-command_by kind bytes at Rule.Window = needed bytes (at + 1) (λ t. Found (Command.Window t) (at + 1 + 1))
-command_by kind bytes at Rule.EndLoop = Found Command.EndLoop (at + 1)
-command_by kind bytes at (Rule.Length l) = note_after kind bytes (at + 1) l
-command_by kind bytes at (Rule.BeginLoop n) = Found (Command.BeginLoop n) (at + 1)
-command_by kind bytes at Rule.Timbre = timbre_after bytes (at + 1)
-command_by kind bytes at Rule.Note = Found (Command.Note (get_or bytes at 0)) (at + 1)
-command_by kind bytes at (Rule.Invalid number) = Refused number at
+-- the command whose first byte stands at an offset and has a rule, or is refused
+abbrev pub command_by : Kind → List ℕ → ℕ → Result Rule Refusal → Decoded
+command_by kind bytes at (Ok Rule.End) = Ok (Command.End, at + 1)
+command_by kind bytes at (Ok Rule.Transpose) = needed bytes (at + 1) (λ m. Ok (Command.Transpose m, at + 1 + 1))
+command_by kind bytes at (Ok Rule.Window) = needed bytes (at + 1) (λ t. Ok (Command.Window t, at + 1 + 1))
+command_by kind bytes at (Ok Rule.EndLoop) = Ok (Command.EndLoop, at + 1)
+command_by kind bytes at (Ok (Rule.Length l)) = note_after kind bytes (at + 1) l
+command_by kind bytes at (Ok (Rule.BeginLoop n)) = Ok (Command.BeginLoop n, at + 1)
+command_by kind bytes at (Ok Rule.Timbre) = timbre_after bytes (at + 1)
+command_by kind bytes at (Ok Rule.Note) = Ok (Command.Note (get_or bytes at 0), at + 1)
+command_by kind bytes at (Err refusal) = Err (refusal, at)
 
 -- the command at an offset with the offset after it, or the refusal with the offset of the byte
 unfoldable pub command_at : Kind → List ℕ → ℕ → Decoded
@@ -99,5 +103,5 @@ bytes_of (Command.Timbre x c) = 0x9f ∷ x ∷ c ∷ []
 bytes_of (Command.Note b) = b ∷ []
 
 abbrev pub told : Decoded → Told
-told (Found c next) = record { number = 0; values = next ∷ bytes_of c }
-told (Refused number at) = record { number = number; values = at ∷ [] }
+told (Ok (c, next)) = record { number = 0; values = next ∷ bytes_of c }
+told (Err (refusal, at)) = record { number = number_of refusal; values = at ∷ [] }

@@ -1,8 +1,10 @@
 -- Document 003, 'Track Header Format', and the numbers of document 01 that it has: 1, 2, 3, 4, 8, 9, and 19 of document 02, No. 3.
-use Rattle.std.specs.Prelude.{ℕ, ◌+◌, ◌/◌, Bool, true, false, List, [], ◌∷◌, map, leb, ltb, eqb, length, get_or}
+use Rattle.std.specs.Prelude.{ℕ, ◌+◌, ◌/◌, Bool, true, List, [], ◌∷◌, map, leb, ltb, eqb, length, get_or, Option, Some, None, Result, Ok, Err}
 use Rattle.engine_base.specs.Pick.{pick, unless, all}
 use Rattle.engine_base.specs.Told.{Told}
-use Rattle.engine_base.specs.Refusal.{wrong_size, table_outside, no_track, header_outside, channel_outside, no_channel, odd_transpose}
+use Rattle.engine_base.specs.Refusal.{number_of as refusal_number}
+use Rattle.engine_base.specs.declared.refusal.Refusal.{Refusal}
+use Rattle.engine_base.specs.declared.refusal.Refusal.TheVariants.{WrongSize, TableOutside, NoTrack, HeaderOutside, ChannelOutside, NoChannel, OddTranspose}
 use Rattle.engine_base.specs.Address.{offset_of, within, all_within}
 use Rattle.engine_base.specs.Bytes.{word_at}
 use Rattle.mother_format.specs.Bank.{bank_size, banks, lengths_size, periods_size, presets_size, envelopes_size}
@@ -12,7 +14,6 @@ use Rattle.mother_format.specs.declared.command.Kind.TheVariants.{Square, Triang
 use Rattle.mother_format.specs.declared.bank.Places.{Places}
 use Rattle.mother_format.specs.declared.header.Voice.{Voice}
 use Rattle.mother_format.specs.declared.header.Track.{Track}
-use Rattle.mother_format.specs.declared.header.Opened.{Opened}
 
 -- the places and what stands at each: a byte a track, the block (its address), and the tables that all tracks share
 abbrev pub addresses_of : Places → List ℕ
@@ -45,14 +46,14 @@ header_address bank places track =
 abbrev pub header_size : ℕ
 header_size = 10
 
--- the first number of 1 to 4, or 0
-unfoldable pub places_number : List ℕ → List ℕ → Places → ℕ → ℕ
+-- the first of 1 to 4
+unfoldable pub places_number : List ℕ → List ℕ → Places → ℕ → Result (Unit {0}) Refusal
 places_number bank8 banka places track =
-    unless (eqb (length bank8) bank_size) wrong_size
-    (unless (eqb (length banka) bank_size) wrong_size
-    (unless (places_fit places) table_outside
-    (unless (ltb track places.track_count) no_track
-    (unless (within (header_address (banks bank8 banka) places track) header_size) header_outside 0))))
+    unless (eqb (length bank8) bank_size) WrongSize
+    (unless (eqb (length banka) bank_size) WrongSize
+    (unless (places_fit places) TableOutside
+    (unless (ltb track places.track_count) NoTrack
+    (unless (within (header_address (banks bank8 banka) places track) header_size) HeaderOutside (Ok tt)))))
 
 -- of a header at an offset from $8000 on: +2 four playlist addresses (square 1, square 2, triangle, noise)
 abbrev pub addresses_at : List ℕ → ℕ → List ℕ
@@ -71,30 +72,30 @@ addresses_fit bank header = all (map address_fits (addresses_at bank header))
 unfoldable pub all_unused : List ℕ → ℕ → Bool
 all_unused bank header = all (map is_unused (addresses_at bank header))
 
--- the first number of 8, 9 and 19 that a header shows, or 0; +0 transpose
-unfoldable pub header_number : List ℕ → ℕ → ℕ
+-- the first of 8, 9 and 19 that a header shows; +0 transpose
+unfoldable pub header_number : List ℕ → ℕ → Result (Unit {0}) Refusal
 header_number bank header =
-    unless (addresses_fit bank header) channel_outside
-    (pick (all_unused bank header) no_channel
-    (pick (is_odd (get_or bank header 0)) odd_transpose 0))
+    unless (addresses_fit bank header) ChannelOutside
+    (pick (all_unused bank header) (Err NoChannel)
+    (pick (is_odd (get_or bank header 0)) (Err OddTranspose) (Ok tt)))
 
--- the first number of 1, 2, 3, 4, 8, 9 and 19, or 0
-unfoldable pub number_of : List ℕ → List ℕ → Places → ℕ → ℕ
+-- the rest, unless a test before it refuses
+abbrev pub and_then : {A : Type 0} → Result (Unit {0}) Refusal → Result A Refusal → Result A Refusal
+and_then (Ok passed) rest = rest
+and_then (Err refusal) rest = Err refusal
+
+-- the first of 1, 2, 3, 4, 8, 9 and 19
+unfoldable pub number_of : List ℕ → List ℕ → Places → ℕ → Result (Unit {0}) Refusal
 number_of bank8 banka places track =
-    pick (eqb (places_number bank8 banka places track) 0)
+    and_then (places_number bank8 banka places track)
     (header_number (banks bank8 banka) (offset_of (header_address (banks bank8 banka) places track)))
-    (places_number bank8 banka places track)
 
--- an unused channel has nothing but its kind
-abbrev pub unused_voice : Kind → Voice
-unused_voice k = record { used = false; kind = k; list = 0 }
-
--- a channel by its playlist's address
-unfoldable pub voice_of : Kind → ℕ → Voice
-voice_of k address = pick (is_unused address) (unused_voice k) (record { used = true; kind = k; list = address })
+-- a channel by its playlist's address, or none if it is unused
+unfoldable pub voice_of : Kind → ℕ → Option Voice
+voice_of k address = pick (is_unused address) None (Some (record { kind = k; list = address }))
 
 -- square 1, square 2, triangle, noise
-unfoldable pub voices_of : List ℕ → ℕ → List Voice
+unfoldable pub voices_of : List ℕ → ℕ → List (Option Voice)
 voices_of bank header =
     voice_of Square (word_at bank (header + 2))
     ∷ voice_of Square (word_at bank (header + 4))
@@ -110,26 +111,12 @@ track_of bank header = record {
   voices = voices_of bank header;
 }
 
-abbrev pub blank_track : Track
-blank_track = record {
-  transpose = 0;
-  window = 0;
-  voices = unused_voice Square ∷ unused_voice Square ∷ unused_voice Square ∷ unused_voice Square ∷ [];
-}
-
--- number 0 and the track, or the first number and a blank track
-abbrev pub opened : ℕ → Track → Opened
-opened n t = record { number = n; track = pick (eqb n 0) t blank_track }
-
-unfoldable pub open_track : List ℕ → List ℕ → Places → ℕ → Opened
+unfoldable pub open_track : List ℕ → List ℕ → Places → ℕ → Result Track Refusal
 open_track bank8 banka places track =
-    opened (number_of bank8 banka places track)
-    (track_of (banks bank8 banka) (offset_of (header_address (banks bank8 banka) places track)))
+    and_then (number_of bank8 banka places track)
+    (Ok (track_of (banks bank8 banka) (offset_of (header_address (banks bank8 banka) places track))))
 
-abbrev pub told_opened : Opened → Told
-told_opened o = record { number = o.number; values = [] }
-
--- Below: only private contracts and laws use these.
-
-abbrev pub refused_track : ℕ → Opened
-refused_track n = record { number = n; track = blank_track }
+-- 0 for a track, or the number of the refusal
+abbrev pub told_opened : Result Track Refusal → Told
+told_opened (Ok track) = record { number = 0; values = [] }
+told_opened (Err refusal) = record { number = refusal_number refusal; values = [] }

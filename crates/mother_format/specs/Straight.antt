@@ -1,17 +1,19 @@
 -- A block read straight, which runs no loop: its commands up to where reading stops. 6, 7, 12, 13, 14, 19 and a key that is out
 -- of range under some transpose don't stop it.
-use Rattle.std.specs.Prelude.{ℕ, zero, suc, ◌+◌, Bool, true, false, List, [], ◌∷◌, length}
+use Rattle.std.specs.Prelude.{ℕ, zero, suc, ◌+◌, Bool, true, false, List, [], ◌∷◌, length, Result, Ok, Err}
 use Rattle.engine_base.specs.Pick.{pick}
 use Rattle.engine_base.specs.Told.{Told}
-use Rattle.engine_base.specs.Refusal.{past_data}
-use Rattle.mother_format.specs.Command.{command_at}
+use Rattle.engine_base.specs.Refusal.{number_of}
+use Rattle.engine_base.specs.declared.refusal.Refusal.{Refusal}
+use Rattle.engine_base.specs.declared.refusal.Refusal.TheVariants.{PastData}
+use Rattle.mother_format.specs.Command.{Decoded, command_at}
 use Rattle.mother_format.specs.declared.command.Kind.{Kind}
 use Rattle.mother_format.specs.declared.command.Command.{Command}
-use Rattle.mother_format.specs.declared.command.Decoded.{Decoded}
-use Rattle.mother_format.specs.declared.command.Decoded.TheVariants.{Found, Refused}
-use Rattle.mother_format.specs.declared.straight.Finish.{Finish}
-use Rattle.mother_format.specs.declared.straight.Finish.TheVariants.{End as Ended, Refused as Faulty}
 use Rattle.mother_format.specs.declared.straight.Reading.{Reading}
+
+-- the offset of the 00, or 10, 11 or 15 and the offset of the byte
+abbrev pub Finish : Type 0
+Finish = Result ℕ (Refusal × ℕ)
 
 -- a command and its offset
 pub record Placed : Type 0 where
@@ -37,12 +39,12 @@ abbrev pub before : ℕ → Command → Straight → Straight
 before at c rest = record { commands = record { at = at; command = c } ∷ rest.commands; finish = rest.finish }
 
 abbrev pub straight_by : ℕ → (ℕ → Straight) → Decoded → Straight
-straight_by at on (Found c next) = pick (is_end c) (record { commands = []; finish = Ended at }) (before at c (on next))
-straight_by at on (Refused number offset) = record { commands = []; finish = Faulty number offset }
+straight_by at on (Ok (c, next)) = pick (is_end c) (record { commands = []; finish = Ok at }) (before at c (on next))
+straight_by at on (Err fault) = record { commands = []; finish = Err fault }
 
 -- from an offset on, with at most so many bytes left
 unfoldable pub straight_from : Kind → List ℕ → ℕ → ℕ → Straight
-straight_from kind bytes zero at = record { commands = []; finish = Faulty past_data at }
+straight_from kind bytes zero at = record { commands = []; finish = Err (PastData, at) }
 straight_from kind bytes (suc left) at = straight_by at (λ next. straight_from kind bytes left next) (command_at kind bytes at)
 
 abbrev pub straight : Kind → List ℕ → Straight
@@ -68,8 +70,8 @@ abbrev pub reading_of : Straight → Reading
 reading_of s = record { notes = notes_in s.commands; finish = s.finish }
 
 abbrev pub told_finish : ℕ → Finish → Told
-told_finish notes (Ended at) = record { number = 0; values = notes ∷ at ∷ [] }
-told_finish notes (Faulty number at) = record { number = number; values = notes ∷ at ∷ [] }
+told_finish notes (Ok at) = record { number = 0; values = notes ∷ at ∷ [] }
+told_finish notes (Err (refusal, at)) = record { number = number_of refusal; values = notes ∷ at ∷ [] }
 
 abbrev pub told_reading : Reading → Told
 told_reading r = told_finish r.notes r.finish

@@ -1,7 +1,7 @@
 // Two lent banks, $8000 to $9fff and $a000 to $bfff, and the places that the caller names.
 ghost use Rattle.std.specs.Prelude.{◌≡◌, get_or};
 ghost use Rattle.engine_base.specs.Bytes.{word_at};
-ghost use Rattle.mother_format.specs.Bank.{banks, block_of, published};
+ghost use Rattle.mother_format.specs.Bank.{bytes_of, block_of, published};
 
 use engine_base::{address, bytes};
 
@@ -18,7 +18,15 @@ pub const PRESETS_SIZE: usize = 31;
 
 pub const ENVELOPES_SIZE: usize = 54;
 
+// The two banks, as they are lent.
+#[derive(Clone, Copy)]
+pub struct Banks<'a> {
+    pub bank8: &'a [u8],
+    pub banka: &'a [u8],
+}
+
 // Addresses, and a number of tracks.
+// Like the old format's but for the default ctrl 1 bytes: the C calls of each engine fix its places.
 #[derive(Clone, Copy)]
 pub struct Places {
     pub header_offsets: u32,
@@ -41,7 +49,7 @@ pub enum Tracks {
 pub fn published_places(tracks: Tracks) -> Places
     ensures { result ≡ published tracks }
 {
-    let mut places = Places {
+    let low = Places {
         header_offsets: 0x903e,
         header_block: 0x906f,
         note_lengths: 0x8fd6,
@@ -51,46 +59,52 @@ pub fn published_places(tracks: Tracks) -> Places
         track_count: 24,
     };
     match tracks {
-        Tracks::Low => places,
+        Tracks::Low => low,
         Tracks::High => {
-            places.header_offsets = 0x9056;
-            places.header_block = 0x915f;
-            places.track_count = 25;
-            places
+            Places {
+                header_offsets: 0x9056,
+                header_block: 0x915f,
+                track_count: 25,
+                ..low
+            }
         }
     }
 }
 
-// The byte at an offset from $8000 on, 0 where there is none.
-pub fn byte(bank8: &[u8], banka: &[u8], at: usize) -> u8
-    ensures { result ≡ get_or (banks bank8.now banka.now) at 0 }
-{
-    if at < bank8.len() {
-        return bank8[at];
+impl<'a> Banks<'a> {
+    // The byte at an offset from $8000 on, 0 where there is none.
+    pub fn byte(self, at: usize) -> u8
+        ensures { result ≡ get_or (bytes_of self.entry) at 0 }
+    {
+        match self.bank8.get(at) {
+            Some(b) => *b,
+            None => bytes::byte(self.banka, at - self.bank8.len()),
+        }
     }
-    bytes::byte(banka, at - bank8.len())
-}
 
-// The little-endian word at an offset from $8000 on, its bytes 0 where there are none.
-pub(crate) fn word(bank8: &[u8], banka: &[u8], at: usize) -> u16
-    ensures { result ≡ word_at (banks bank8.now banka.now) at }
-{
-    if bank8.len() <= at {
-        return bytes::word(banka, at - bank8.len());
+    // The little-endian word at an offset from $8000 on, its bytes 0 where there are none.
+    #[tactic(auto, using(crate::proofs::bank::Joined::word_left, crate::proofs::bank::Joined::word_right, crate::proofs::bank::Joined::word_across))]
+    pub(crate) fn word(self, at: usize) -> u16
+        ensures { result ≡ word_at (bytes_of self.entry) at }
+    {
+        if self.bank8.len() <= at {
+            return bytes::word(self.banka, at - self.bank8.len());
+        }
+        if at + 1 < self.bank8.len() {
+            return bytes::word(self.bank8, at);
+        }
+        u16::from_le_bytes([bytes::byte(self.bank8, at), bytes::byte(self.banka, 0)])
     }
-    if at + 1 < bank8.len() {
-        return bytes::word(bank8, at);
-    }
-    bytes::byte(bank8, at) as u16 + 256 * (bytes::byte(banka, 0) as u16)
-}
 
-// The block at an address: a part of the bank that holds it.
-pub fn block<'a>(bank8: &'a [u8], banka: &'a [u8], address: u16) -> &'a [u8]
-    ensures { result.now ≡ block_of bank8.now banka.now address }
-{
-    let at = address::offset_of(address as usize);
-    if at < bank8.len() {
-        return bytes::part(bank8, at, BLOCK_LIMIT);
+    // The block at an address: a part of the bank that holds it.
+    #[tactic(auto, unfolding(crate::specs::Bank::block_of))]
+    pub fn block(self, address: u16) -> &'a [u8]
+        ensures { result.now ≡ block_of self.entry.bank8.now self.entry.banka.now address }
+    {
+        let at = address::offset_of(usize::from(address));
+        if at < self.bank8.len() {
+            return bytes::part(self.bank8, at, BLOCK_LIMIT);
+        }
+        bytes::part(self.banka, at - self.bank8.len(), BLOCK_LIMIT)
     }
-    bytes::part(banka, at - bank8.len(), BLOCK_LIMIT)
 }

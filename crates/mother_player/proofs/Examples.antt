@@ -1,9 +1,9 @@
 -- Document 003's examples of what sounds, by computation, and a small track from its first frame on.
 use Prim.Native.Nat.{ℕ, zero, suc}
-use mathlib.Core.Bool.{true, false}
 use mathlib.Core.List.{List, [], ◌∷◌, map}
 use mathlib.Core.Path.{◌≡◌, refl}
 use lib.ListN.{get_or}
+use Rattle.std.specs.Prelude.{Some, None}
 use Rattle.engine_base.specs.Address.{within}
 use Rattle.engine_base.specs.Answer.{answer_kind}
 use Rattle.engine_base.specs.Bytes.{word_at}
@@ -19,7 +19,6 @@ use Rattle.mother_format.specs.Command.{is_key, melodic_rule, rule_of, note_afte
 use Rattle.mother_format.specs.Channel.{length_at, length_fault, played_rule, played_at}
 use Rattle.mother_format.specs.declared.bank.Places.{Places}
 use Rattle.mother_format.specs.declared.command.Kind.{Kind}
-use Rattle.mother_format.specs.declared.header.Voice.{Voice}
 use Rattle.mother_format.specs.declared.header.Track.{Track}
 use Rattle.mother_player.specs.Record.{fresh_player, sound_fits, block_fits, channel_fits, record_fits}
 use Rattle.mother_player.specs.Release.{linear_of, release_of}
@@ -72,18 +71,15 @@ places = record {
   track_count = 1;
 }
 
-abbrev unused : Kind → Voice
-unused k = record { used = false; kind = k; list = 0 }
-
 abbrev track : Track
 track = record {
   transpose = 0;
   window = 0;
   voices =
-      record { used = true; kind = Kind.Square; list = 0x8007 }
-      ∷ unused Kind.Square
-      ∷ record { used = true; kind = Kind.Triangle; list = 0x800d }
-      ∷ unused Kind.Noise
+      Some (record { kind = Kind.Square; list = 0x8007 })
+      ∷ None
+      ∷ Some (record { kind = Kind.Triangle; list = 0x800d })
+      ∷ None
       ∷ [];
 }
 

@@ -1,12 +1,14 @@
 -- Document 01, 'A frame', and document 02, No. 3: the frame rule of the later engine, and start.
-use Rattle.std.specs.Prelude.{ℕ, ◌+◌, ◌-◌, false, List, [], ◌∷◌, ◌++◌, eqb}
+use Rattle.std.specs.Prelude.{ℕ, ◌+◌, ◌-◌, false, List, [], ◌∷◌, ◌++◌, eqb, Option, Some, None, Result, Ok, Err}
 use Rattle.std.proofs.lemmas.List.Edits.{sets}
 use Rattle.engine_base.specs.Pick.{pick}
 use Rattle.engine_base.specs.Told.{Told}
 use Rattle.engine_base.specs.Answer.{answer_number, answer_kind, answer_place}
 use Rattle.engine_base.specs.Channels.{four}
-use Rattle.engine_base.specs.Refusal.{invalid_record}
+use Rattle.engine_base.specs.Refusal.{number_of}
 use Rattle.engine_base.specs.declared.answer.Answer.{Answer}
+use Rattle.engine_base.specs.declared.refusal.Refusal.{Refusal}
+use Rattle.engine_base.specs.declared.refusal.Refusal.TheVariants.{InvalidRecord}
 use Rattle.mother_format.specs.Bank.{banks}
 use Rattle.mother_format.specs.Header.{open_track}
 use Rattle.mother_format.specs.declared.bank.Places.{Places}
@@ -19,7 +21,7 @@ use Rattle.mother_player.specs.Event.{off_event, event_of, told_event}
 use Rattle.mother_player.specs.declared.record.Channel.{Channel}
 use Rattle.mother_player.specs.declared.record.Player.{Player}
 use Rattle.mother_player.specs.declared.event.Event.{Event}
-use Rattle.mother_player.specs.declared.reading.Turned.{Turned}
+use Rattle.engine_base.specs.declared.answer.Turned.{Turned}
 use Rattle.mother_player.specs.declared.reading.Turn.{Turn}
 use Rattle.mother_player.specs.declared.frame.Framed.{Framed}
 use Rattle.mother_player.specs.declared.frame.Started.{Started}
@@ -28,14 +30,12 @@ use Rattle.mother_player.specs.declared.frame.Started.{Started}
 abbrev pub one_off : Channel → Channel
 one_off c = noted c c.length (record { count = c.left.count - 1 }) c.sounding c.timbre c.ctrl
 
--- what a channel does under a setting: an unused one is off; one with no frames left reads
+-- what a used channel does under a setting: one with no frames left reads
 unfoldable pub turn_of : List ℕ → List ℕ → Places → Setting → Voice → Channel → Turn
 turn_of bank8 banka places s voice c =
-    pick voice.used
-    (pick (eqb c.left.count 0)
+    pick (eqb c.left.count 0)
     (read_until bank8 banka places voice.kind (first_reader voice.list c s))
-    (record { turned = Turned.Plays; began = false; channel = c; setting = s; count = 0 }))
-    (record { turned = Turned.Off; began = false; channel = c; setting = s; count = 0 })
+    (record { turned = Turned.Plays; began = false; channel = c; setting = s; count = 0 })
 
 -- the channels gone through in order: those reached, the answer, and the transpose and window that hold at last
 pub record Settled : Type 0 where
@@ -61,23 +61,27 @@ settle_on event c count rest = record {
 
 -- an end met by any channel ends the frame at once, and so does a refusal: later channels are not read
 abbrev pub settle_by : List ℕ → Places → ℕ → Voice → Turn → Turned → Settled → Settled
-settle_by bank places i voice t Turned.Off rest = settle_on off_event t.channel t.count rest
 settle_by bank places i voice t Turned.Plays rest =
     settle_on (event_of bank places voice.kind t.channel t.began) (one_off t.channel) t.count rest
 settle_by bank places i voice t Turned.End rest = settled Answer.End (t.count ∷ []) t.setting
-settle_by bank places i voice t (Turned.Refused number at address) rest =
-    settled (Answer.Fault number i at address) (t.count ∷ []) t.setting
+settle_by bank places i voice t (Turned.Refused refusal at address) rest =
+    settled (Answer.Fault refusal i at address) (t.count ∷ []) t.setting
 
 abbrev pub settle_turn : List ℕ → Places → ℕ → Voice → Turn → (Setting → Settled) → Settled
 settle_turn bank places i voice t rest = settle_by bank places i voice t t.turned (rest t.setting)
 
+-- an unused channel is off and stays as it is
+abbrev pub settle_voice : List ℕ → List ℕ → Places → Setting → ℕ → Channel → (Setting → Settled) → Option Voice → Settled
+settle_voice bank8 banka places s i c rest None = settle_on off_event c 0 (rest s)
+settle_voice bank8 banka places s i c rest (Some voice) =
+    settle_turn (banks bank8 banka) places i voice (turn_of bank8 banka places s voice c) rest
+
 -- what a channel sets holds for those after it
-unfoldable pub settle_from : List ℕ → List ℕ → Places → Setting → ℕ → List Voice → List Channel → Settled
+unfoldable pub settle_from : List ℕ → List ℕ → Places → Setting → ℕ → List (Option Voice) → List Channel → Settled
 settle_from bank8 banka places s i [] cs = settled Answer.Events [] s
 settle_from bank8 banka places s i (v ∷ vs) [] = settled Answer.Events [] s
 settle_from bank8 banka places s i (v ∷ vs) (c ∷ cs) =
-    settle_turn (banks bank8 banka) places i v (turn_of bank8 banka places s v c)
-    (λ after. settle_from bank8 banka places after (i + 1) vs cs)
+    settle_voice bank8 banka places s i c (λ after. settle_from bank8 banka places after (i + 1) vs cs) v
 
 -- no events; the next record comes last
 abbrev pub eventless : Answer → List ℕ → Player → Framed
@@ -106,8 +110,8 @@ framed_by player s Answer.Events = record {
 }
 framed_by player s Answer.End = broken_off Answer.End s.counts stopped_player
 framed_by player s Answer.Stopped = unplayed Answer.Stopped player
-framed_by player s (Answer.Refused number) = unplayed (Answer.Refused number) player
-framed_by player s (Answer.Fault number i at address) = broken_off (Answer.Fault number i at address) s.counts player
+framed_by player s (Answer.Refused refusal) = unplayed (Answer.Refused refusal) player
+framed_by player s (Answer.Fault refusal i at address) = broken_off (Answer.Fault refusal i at address) s.counts player
 
 abbrev pub framed : Player → Settled → Framed
 framed player s = framed_by player s s.answer
@@ -122,22 +126,24 @@ frame_of_track bank8 banka places track player =
     (pick (eqb player.stopped 0)
     (framed player (settle_from bank8 banka places (setting_of player) 0 track.voices player.channels))
     (unplayed Answer.Stopped player))
-    (unplayed (Answer.Refused invalid_record) player)
+    (unplayed (Answer.Refused InvalidRecord) player)
+
+-- a track that does not open is refused under its number
+abbrev pub frame_by : List ℕ → List ℕ → Places → Player → Result Track Refusal → Framed
+frame_by bank8 banka places player (Ok track) = frame_of_track bank8 banka places track player
+frame_by bank8 banka places player (Err refusal) = unplayed (Answer.Refused refusal) player
 
 -- after 1 to 9 and 19
 unfoldable pub frame_of : List ℕ → List ℕ → Places → ℕ → Player → Framed
-frame_of bank8 banka places track player =
-    pick (eqb (open_track bank8 banka places track).number 0)
-    (frame_of_track bank8 banka places (open_track bank8 banka places track).track player)
-    (unplayed (Answer.Refused (open_track bank8 banka places track).number) player)
+frame_of bank8 banka places track player = frame_by bank8 banka places player (open_track bank8 banka places track)
 
--- the header's transpose and window, all else 0; refused, the track is blank and so is the record
+-- the header's transpose and window, all else 0; refused, those are 0 too
+abbrev pub started_by : Result Track Refusal → Started
+started_by (Ok track) = record { refusal = None; player = fresh_player track.transpose track.window }
+started_by (Err refusal) = record { refusal = Some refusal; player = fresh_player 0 0 }
+
 unfoldable pub start_of : List ℕ → List ℕ → Places → ℕ → Started
-start_of bank8 banka places track = record {
-  number = (open_track bank8 banka places track).number;
-  player =
-      fresh_player (open_track bank8 banka places track).track.transpose (open_track bank8 banka places track).track.window;
-}
+start_of bank8 banka places track = started_by (open_track bank8 banka places track)
 
 abbrev pub told_events : List Event → List ℕ
 told_events [] = []
@@ -150,5 +156,10 @@ told_framed f = record {
   values = answer_kind f.answer ∷ f.counts ++ (answer_place f.answer ++ told_events f.events);
 }
 
+-- of the refusal, or 0
+abbrev pub started_number : Option Refusal → ℕ
+started_number None = 0
+started_number (Some refusal) = number_of refusal
+
 abbrev pub told_started : Started → Told
-told_started s = record { number = s.number; values = [] }
+told_started s = record { number = started_number s.refusal; values = [] }

@@ -1,7 +1,8 @@
 -- Document 02, No. 3: a channel goes on through its block and its playlist until a note, the track's end or a refusal.
-use Rattle.std.specs.Prelude.{ℕ, zero, suc, ◌+◌, Bool, true, false, List, eqb}
+use Rattle.std.specs.Prelude.{ℕ, zero, suc, ◌+◌, Bool, true, false, List, eqb, Result, Ok, Err}
 use Rattle.engine_base.specs.Pick.{pick}
-use Rattle.engine_base.specs.Refusal.{bad_playlist, too_many_commands}
+use Rattle.engine_base.specs.declared.refusal.Refusal.{Refusal}
+use Rattle.engine_base.specs.declared.refusal.Refusal.TheVariants.{TooManyCommands}
 use Rattle.engine_base.specs.declared.time.Frames.{Frames}
 use Rattle.mother_format.specs.Bank.{banks}
 use Rattle.mother_format.specs.Playlist.{entry_at}
@@ -18,7 +19,7 @@ use Rattle.mother_player.specs.declared.reading.Place.{Place}
 use Rattle.mother_player.specs.declared.reading.Reader.{Reader}
 use Rattle.mother_player.specs.declared.reading.Stepped.{Stepped}
 use Rattle.mother_player.specs.declared.reading.Step.{Step}
-use Rattle.mother_player.specs.declared.reading.Turned.{Turned}
+use Rattle.engine_base.specs.declared.answer.Turned.{Turned}
 use Rattle.mother_player.specs.declared.reading.Turn.{Turn}
 
 -- a channel with another place in its playlist and block, and loop
@@ -100,7 +101,7 @@ step_of kind r (Played.BeginLoop counter next) = again Place.Block r.channel r.s
 step_of kind r (Played.Length b long next) = note_begun r (begun (length_set r.channel long kind) b)
 step_of kind r (Played.Timbre x base next) = again Place.Block (timbred r.channel x base) r.setting
 step_of kind r (Played.Note b next) = note_begun r (begun r.channel b)
-step_of kind r (Played.Refused number at address) = record { stepped = Stepped.Refused number at address; reader = r }
+step_of kind r (Played.Refused refusal at address) = record { stepped = Stepped.Refused refusal at address; reader = r }
 
 -- a channel that stands behind a command that it has played
 abbrev pub behind : Reader → Played → Reader
@@ -119,11 +120,11 @@ block_step bank8 banka places kind r =
     by p = step_of kind (behind r p) p
 
 -- the playlist's word: its end ends the track for all channels
-abbrev pub entry_step : Reader → Entry → Step
-entry_step r Entry.End = record { stepped = Stepped.End; reader = r }
-entry_step r (Entry.Goto target) = again Place.Target (went_to r.channel target) r.setting
-entry_step r (Entry.Block at word) = again Place.Block (entered r.channel at word) r.setting
-entry_step r Entry.Refused = record { stepped = Stepped.Refused bad_playlist 0 0; reader = r }
+abbrev pub entry_step : Reader → Result Entry Refusal → Step
+entry_step r (Ok Entry.End) = record { stepped = Stepped.End; reader = r }
+entry_step r (Ok (Entry.Goto target)) = again Place.Target (went_to r.channel target) r.setting
+entry_step r (Ok (Entry.Block at word)) = again Place.Block (entered r.channel at word) r.setting
+entry_step r (Err refusal) = record { stepped = Stepped.Refused refusal 0 0; reader = r }
 
 abbrev pub list_step : List ℕ → Reader → Bool → Step
 list_step bank r by-goto = entry_step r (entry_at bank r.channel.list r.channel.row by-goto)
@@ -154,14 +155,14 @@ abbrev pub read_by : ℕ → (Reader → Turn) → Reader → Stepped → Turn
 read_by count on r Stepped.Again = on r
 read_by count on r Stepped.Note = turn_from Turned.Plays true r (count + 1)
 read_by count on r Stepped.End = turn_from Turned.End false r (count + 1)
-read_by count on r (Stepped.Refused number at address) = turn_from (Turned.Refused number at address) false r count
+read_by count on r (Stepped.Refused refusal at address) = turn_from (Turned.Refused refusal at address) false r count
 
 abbrev pub read_step : ℕ → (Reader → Turn) → Step → Turn
 read_step count on step = read_by count on step.reader step.stepped
 
 -- with so many commands left to read and so many read; 21 comes before the next one is looked at
 unfoldable pub read_from : List ℕ → List ℕ → Places → Kind → ℕ → Reader → ℕ → Turn
-read_from bank8 banka places kind zero r count = turn_from (Turned.Refused too_many_commands (offset_at r) 0) false r count
+read_from bank8 banka places kind zero r count = turn_from (Turned.Refused TooManyCommands (offset_at r) 0) false r count
 read_from bank8 banka places kind (suc more) r count =
     read_step count (λ next. read_from bank8 banka places kind more next (count + 1)) (step_from bank8 banka places kind r)
 

@@ -1,5 +1,5 @@
 -- Document 02, No. 3: the record, and what 16 tests.
-use Rattle.std.specs.Prelude.{ℕ, ◌%◌, Bool, true, false, List, [], ◌∷◌, leb, eqb}
+use Rattle.std.specs.Prelude.{ℕ, ◌%◌, Bool, true, false, List, [], ◌∷◌, leb, eqb, Option, Some, None}
 use Rattle.engine_base.specs.Pick.{pick, all}
 use Rattle.engine_base.specs.Address.{within}
 use Rattle.engine_base.specs.Channels.{four}
@@ -59,23 +59,22 @@ timbre_fits Triangle timbre = true
 timbre_fits Noise timbre = true
 
 -- 16 asks only used channels
-unfoldable pub channel_fits : Voice → Channel → Bool
-channel_fits voice c =
-    pick voice.used
-    (all
+unfoldable pub channel_fits : Option Voice → Channel → Bool
+channel_fits None c = true
+channel_fits (Some voice) c =
+    all
     (leb c.next block_limit
     ∷ leb c.loop_start block_limit
     ∷ sound_fits voice.kind c
     ∷ block_fits c.block
     ∷ timbre_fits voice.kind c.timbre
-    ∷ []))
-    true
+    ∷ [])
 
-abbrev pub channels_fit : List Voice → List Channel → Bool
+abbrev pub channels_fit : List (Option Voice) → List Channel → Bool
 channels_fit [] cs = true
 channels_fit (v ∷ vs) [] = true
 channels_fit (v ∷ vs) (c ∷ cs) = pick (channel_fits v c) (channels_fit vs cs) false
 
 -- what is not refused under 16; the transpose is asked whether or not any channel is used
-unfoldable pub record_fits : List Voice → Player → Bool
+unfoldable pub record_fits : List (Option Voice) → Player → Bool
 record_fits voices player = pick (is_odd player.transpose) false (channels_fit voices player.channels)

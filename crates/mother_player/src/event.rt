@@ -1,19 +1,19 @@
 // What a channel sounds in a frame.
-ghost use Rattle.std.specs.Prelude.{◌≡◌, ◌+◌, ◌*◌, drop};
+ghost use Rattle.std.specs.Prelude.{◌≡◌, drop};
 ghost use Rattle.engine_base.specs.Address.{offset_of};
 ghost use Rattle.engine_base.specs.Bytes.{period_at};
-ghost use Rattle.mother_format.specs.Bank.{banks};
+ghost use Rattle.mother_format.specs.Bank.{bytes_of};
 ghost use Rattle.mother_player.specs.Event.{off_event, square_sound, triangle_sound, dmc_of, noise_sound, sound_of, event_of, told_event};
 
 use crate::record::Channel;
 use crate::{ctrl1, release};
 use engine_base::ctrl1::SILENT;
-use engine_base::release::Release;
+use engine_base::release::{Release, quarter_frames};
 use engine_base::time::QuarterFrames;
-use engine_base::{address, answer, field};
-use mother_format::bank::Places;
+use engine_base::{address, field};
+use mother_format::bank::{Banks, Places};
 use mother_format::command::Kind;
-use mother_format::{bank, transpose};
+use mother_format::transpose;
 
 #[derive(Clone, Copy)]
 pub enum Sound {
@@ -32,6 +32,7 @@ pub enum Sound {
     Noise(u8, u8, u8, u8),
 }
 
+// Like the old engine's, over types and definitions of its own: a trait for both would be longer than the two.
 #[derive(Clone, Copy)]
 pub struct Event {
     // in this frame
@@ -51,37 +52,34 @@ pub(crate) fn off() -> Event
     }
 }
 
-fn big_endian(high: u8, low: u8) -> u16
-    ensures { result ≡ 256 * high + low }
-{
-    256 * (high as u16) + low as u16
-}
-
 // The word of a key in the table at an address.
-fn period_at(bank8: &[u8], banka: &[u8], table: u32, key: u8) -> u16
-    ensures { result ≡ period_at (drop (offset_of table) (banks bank8.now banka.now)) key }
+#[tactic(auto, using(crate::proofs::event::Tables::period_is))]
+fn period_at(banks: Banks, table: u32, key: u8) -> u16
+    ensures { result ≡ period_at (drop (offset_of table) (bytes_of banks.entry)) key }
 {
-    let at = address::offset_of(table as usize) + 2 * (key as usize);
-    let high = bank::byte(bank8, banka, at);
-    let low = bank::byte(bank8, banka, at + 1);
-    big_endian(high, low)
+    let at = address::offset_of(table as usize) + 2 * usize::from(key);
+    let high = banks.byte(at);
+    let low = banks.byte(at + 1);
+    u16::from_be_bytes([high, low])
 }
 
-fn square_sound(bank8: &[u8], banka: &[u8], places: Places, channel: Channel) -> Sound
-    ensures { result ≡ square_sound (banks bank8.now banka.now) places channel }
+#[tactic(auto, unfolding(crate::specs::Event::square_sound))]
+fn square_sound(banks: Banks, places: Places, channel: Channel) -> Sound
+    ensures { result ≡ square_sound (bytes_of banks.entry) places channel }
 {
     let pitch = channel.timbre >> 5;
     if channel.sounding == transpose::REST {
         return Sound::SquareRest(SILENT, pitch);
     }
     let key = channel.sounding >> 1;
-    let period = period_at(bank8, banka, places.key_periods, key);
-    let ctrl1 = ctrl1::note_ctrl1(bank8, banka, places.envelope_addresses, channel);
+    let period = period_at(banks, places.key_periods, key);
+    let ctrl1 = ctrl1::note_ctrl1(banks, places.envelope_addresses, channel);
     Sound::Square(key, period, ctrl1, pitch)
 }
 
-fn triangle_sound(bank8: &[u8], banka: &[u8], places: Places, channel: Channel) -> Sound
-    ensures { result ≡ triangle_sound (banks bank8.now banka.now) places channel }
+#[tactic(auto, unfolding(crate::specs::Event::triangle_sound))]
+fn triangle_sound(banks: Banks, places: Places, channel: Channel) -> Sound
+    ensures { result ≡ triangle_sound (bytes_of banks.entry) places channel }
 {
     let pitch = channel.timbre >> 5;
     if channel.sounding == transpose::REST {
@@ -89,62 +87,59 @@ fn triangle_sound(bank8: &[u8], banka: &[u8], places: Places, channel: Channel) 
         return Sound::TriangleRest(none, pitch);
     }
     let key = channel.sounding >> 1;
-    let period = period_at(bank8, banka, places.key_periods, key);
+    let period = period_at(banks, places.key_periods, key);
     let after = release::release_of(channel.ctrl);
     Sound::Triangle(key, period, after, pitch)
 }
 
 // D of DDpp pppp: preset 1 or 2, else none.
+#[tactic(auto, unfolding(crate::specs::Event::dmc_of))]
 fn dmc_of(b: u8) -> u8
     ensures { result ≡ dmc_of b }
 {
-    let d = b >> 6;
-    if d == 1 {
-        return 1;
+    match b >> 6 {
+        preset @ (1 | 2) => preset,
+        _ => 0,
     }
-    if d == 2 {
-        return 2;
-    }
-    0
 }
 
-fn noise_sound(bank8: &[u8], banka: &[u8], table: u32, b: u8) -> Sound
-    ensures { result ≡ noise_sound (drop (offset_of table) (banks bank8.now banka.now)) b }
+#[tactic(auto, using(crate::proofs::event::Tables::byte_is, crate::proofs::event::Tables::byte_behind), unfolding(crate::specs::Event::noise_sound))]
+fn noise_sound(banks: Banks, table: u32, b: u8) -> Sound
+    ensures { result ≡ noise_sound (drop (offset_of table) (bytes_of banks.entry)) b }
 {
     let dmc = dmc_of(b);
-    let p = field::low6(b);
+    let p = field::low::<6>(b);
     if p == NOISE_REST {
         return Sound::NoiseRest(dmc);
     }
-    let at = address::offset_of(table as usize) + p as usize;
-    let first = bank::byte(bank8, banka, at);
-    let second = bank::byte(bank8, banka, at + 1);
-    let third = bank::byte(bank8, banka, at + 2);
+    let at = address::offset_of(table as usize) + usize::from(p);
+    let first = banks.byte(at);
+    let second = banks.byte(at + 1);
+    let third = banks.byte(at + 2);
     Sound::Noise(first, second, third, dmc)
 }
 
 // The sound of a channel whose record has the frame not yet taken off.
-fn sound_of(bank8: &[u8], banka: &[u8], places: Places, kind: Kind, channel: Channel) -> Sound
-    ensures { result ≡ sound_of (banks bank8.now banka.now) places channel kind }
+fn sound_of(banks: Banks, places: Places, kind: Kind, channel: Channel) -> Sound
+    ensures { result ≡ sound_of (bytes_of banks.entry) places channel kind }
 {
     match kind {
-        Kind::Square => square_sound(bank8, banka, places, channel),
-        Kind::Triangle => triangle_sound(bank8, banka, places, channel),
-        Kind::Noise => noise_sound(bank8, banka, places.noise_presets, channel.sounding),
+        Kind::Square => square_sound(banks, places, channel),
+        Kind::Triangle => triangle_sound(banks, places, channel),
+        Kind::Noise => noise_sound(banks, places.noise_presets, channel.sounding),
     }
 }
 
 pub(crate) fn event_of(
-    bank8: &[u8],
-    banka: &[u8],
+    banks: Banks,
     places: Places,
     kind: Kind,
     channel: Channel,
     began: bool,
 ) -> Event
-    ensures { result ≡ event_of (banks bank8.now banka.now) places kind channel began }
+    ensures { result ≡ event_of (bytes_of banks.entry) places kind channel began }
 {
-    let sound = sound_of(bank8, banka, places, kind, channel);
+    let sound = sound_of(banks, places, kind, channel);
     Event { began, sound }
 }
 
@@ -152,38 +147,37 @@ pub(crate) fn event_of(
 pub fn told(event: Event) -> [u32; 6]
     ensures { result ≡ told_event event }
 {
-    let sound = event.sound;
-    let began = answer::flag(event.began);
-    match sound {
+    let began = u32::from(event.began);
+    match event.sound {
         Sound::Off => [0, 0, 0, 0, 0, 0],
-        Sound::SquareRest(ctrl1, pitch) => [1, began, 0, 0, ctrl1 as u32, pitch as u32],
+        Sound::SquareRest(ctrl1, pitch) => [1, began, 0, 0, ctrl1.into(), pitch.into()],
         Sound::TriangleRest(release, pitch) => {
-            let after = engine_base::release::quarter_frames(release);
-            [1, began, 0, 0, after, pitch as u32]
+            let after = quarter_frames(release);
+            [1, began, 0, 0, after, pitch.into()]
         }
-        Sound::NoiseRest(dmc) => [1, began, 0, 0, 0, dmc as u32],
+        Sound::NoiseRest(dmc) => [1, began, 0, 0, 0, dmc.into()],
         Sound::Square(key, period, ctrl1, pitch) => {
             [
                 2,
                 began,
-                key as u32,
-                period as u32,
-                ctrl1 as u32,
-                pitch as u32,
+                key.into(),
+                period.into(),
+                ctrl1.into(),
+                pitch.into(),
             ]
         }
         Sound::Triangle(key, period, release, pitch) => {
-            let after = engine_base::release::quarter_frames(release);
-            [2, began, key as u32, period as u32, after, pitch as u32]
+            let after = quarter_frames(release);
+            [2, began, key.into(), period.into(), after, pitch.into()]
         }
         Sound::Noise(first, second, third, dmc) => {
             [
                 2,
                 began,
-                first as u32,
-                second as u32,
-                third as u32,
-                dmc as u32,
+                first.into(),
+                second.into(),
+                third.into(),
+                dmc.into(),
             ]
         }
     }

@@ -4,17 +4,18 @@ ghost use Rattle.engine_base.specs.Told.{Answers};
 ghost use Rattle.mother_player.specs.Frame.{one_off, turn_of, eventless, setting_of, settle_from, framed, frame_of_track, frame_of, start_of, told_framed, told_started};
 
 use crate::event::Event;
-use crate::reading::{Turn, Turned};
+use crate::reading::Turn;
 use crate::record::{Channel, Player};
 use crate::{event, reading, record};
-use engine_base::answer::Answer;
-use engine_base::refusal;
+use engine_base::answer::{Answer, Turned};
+use engine_base::refusal::Refusal;
 use engine_base::time::Frames;
-use mother_format::bank::Places;
+use mother_format::bank::{Banks, Places};
 use mother_format::channel::Setting;
 use mother_format::header;
 use mother_format::header::{Track, Voice};
 
+// Like the old engine's, over a record of its own that the C interface fixes: a trait of all its fields would be longer.
 #[derive(Clone, Copy)]
 pub struct Framed {
     pub answer: Answer,
@@ -23,55 +24,37 @@ pub struct Framed {
     pub player: Player,
 }
 
+// Like the old engine's, over a record of its own that the C interface fixes: a trait of all its fields would be longer.
 #[derive(Clone, Copy)]
 pub struct Started {
-    // 0, or that of the refusal
-    pub number: u32,
+    pub refusal: Option<Refusal>,
     pub player: Player,
 }
 
 // One frame is taken off.
+// Like the old engine's, over a record of its own that the C interface fixes: a trait of all its fields would be longer.
 fn one_off(channel: Channel) -> Channel
     ensures { result ≡ one_off channel }
 {
-    let mut next = channel;
-    let left = channel.left.count;
-    if left == 0 {
-        return next;
+    Channel {
+        left: Frames {
+            count: channel.left.count.saturating_sub(1),
+        },
+        ..channel
     }
-    let less = Frames { count: left - 1 };
-    next.left = less;
-    next
 }
 
-// What a channel does.
-fn take_turn<'a>(
-    bank8: &'a [u8],
-    banka: &'a [u8],
-    places: Places,
-    voice: Voice,
-    channel: Channel,
-    setting: Setting,
-) -> Turn
-    ensures { result ≡ turn_of bank8.now banka.now places setting voice channel }
+// What a used channel does.
+#[tactic(auto, unfolding(crate::specs::Frame::turn_of))]
+fn take_turn(banks: Banks, places: Places, voice: Voice, channel: Channel, setting: Setting) -> Turn
+    ensures { result ≡ turn_of banks.entry.bank8.now banks.entry.banka.now places setting voice channel }
 {
-    let used = voice.used;
-    let kind = voice.kind;
-    if used {
-        if channel.left.count == 0 {
-            let reader = reading::reader_of(voice.list, channel, setting);
-            return reading::read_until(bank8, banka, places, kind, reader);
-        }
-        return Turn {
-            turned: Turned::Plays,
-            began: false,
-            channel,
-            setting,
-            count: 0,
-        };
+    if channel.left.count == 0 {
+        let reader = reading::reader_of(voice.list, channel, setting);
+        return reading::read_until(banks, places, voice.kind, reader);
     }
     Turn {
-        turned: Turned::Off,
+        turned: Turned::Plays,
         began: false,
         channel,
         setting,
@@ -79,136 +62,114 @@ fn take_turn<'a>(
     }
 }
 
+// Like the old engine's, over a record of its own that the C interface fixes: a trait of all its fields would be longer.
 fn without_events(answer: Answer, counts: [u32; 4], player: Player) -> Framed
     ensures { result ≡ eventless answer counts player }
 {
-    let off = event::off();
     Framed {
         answer,
-        events: [off; 4],
+        events: [event::off(); 4],
         counts,
         player,
     }
 }
 
-fn setting_of(player: Player) -> Setting
-    ensures { result ≡ setting_of player }
-{
-    Setting {
-        transpose: player.transpose,
-        window: player.window,
+impl From<Player> for Setting {
+    ghost from_gives = { λ player setting. setting ≡ setting_of player };
+
+    fn from(player: Player) -> Setting {
+        Setting {
+            transpose: player.transpose,
+            window: player.window,
+        }
     }
 }
 
 // The four channels, gone through in order.
-fn settle<'a>(
-    bank8: &'a [u8],
-    banka: &'a [u8],
-    places: Places,
-    voices: [Voice; 4],
-    player: Player,
-) -> Framed
-    ensures { result ≡ framed player (settle_from bank8.now banka.now places (setting_of player) 0 voices player.channels) }
+fn settle(banks: Banks, places: Places, voices: [Option<Voice>; 4], player: Player) -> Framed
+    ensures { result ≡ framed player (settle_from banks.entry.bank8.now banks.entry.banka.now places (setting_of player) 0 voices player.channels) }
 {
     let mut channels = player.channels;
-    let mut setting = setting_of(player);
-    let off = event::off();
-    let mut events = [off; 4];
-    let mut counts = [0u32; 4];
-    let mut i: usize = 0;
-    while i < 4 {
-        let voice = voices[i];
-        let channel = channels[i];
-        let turn = take_turn(bank8, banka, places, voice, channel, setting);
-        let turned = turn.turned;
+    let mut setting = Setting::from(player);
+    let mut events = [event::off(); 4];
+    let mut counts = [0; 4];
+    for (i, voice) in voices.iter().enumerate() {
+        let Some(voice) = *voice else {
+            continue;
+        };
+        let turn = take_turn(banks, places, voice, channels[i], setting);
         counts[i] = turn.count;
-        match turned {
-            Turned::Off => {
-                let kept = turn.channel;
-                events[i] = off;
-                channels[i] = kept;
-                setting = turn.setting;
-                i += 1;
-            }
+        setting = turn.setting;
+        match turn.turned {
             Turned::Plays => {
                 let sounding = turn.channel;
-                let kind = voice.kind;
-                let event = event::event_of(bank8, banka, places, kind, sounding, turn.began);
-                let next = one_off(sounding);
+                let event = event::event_of(banks, places, voice.kind, sounding, turn.began);
                 events[i] = event;
-                channels[i] = next;
-                setting = turn.setting;
-                i += 1;
+                channels[i] = one_off(sounding);
             }
-            Turned::End => {
-                let ended = record::stopped();
-                return without_events(Answer::End, counts, ended);
-            }
-            Turned::Refused(number, at, address) => {
-                return without_events(Answer::Fault(number, i, at, address), counts, player);
+            Turned::End => return without_events(Answer::End, counts, record::stopped()),
+            Turned::Refused(refusal, at, address) => {
+                return without_events(Answer::Fault(refusal, i, at, address), counts, player);
             }
         }
     }
-    let next = Player {
-        stopped: player.stopped,
-        transpose: setting.transpose,
-        window: setting.window,
-        channels,
-    };
     Framed {
         answer: Answer::Events,
         events,
         counts,
-        player: next,
+        player: Player {
+            transpose: setting.transpose,
+            window: setting.window,
+            channels,
+            ..player
+        },
     }
 }
 
 // A frame of an opened track: 16, then Stopped, then reading.
-fn frame_of_track<'a>(
-    bank8: &'a [u8],
-    banka: &'a [u8],
-    places: Places,
-    track: Track,
-    player: Player,
-) -> Framed
-    ensures { result ≡ frame_of_track bank8.now banka.now places track player }
+#[tactic(auto, unfolding(crate::specs::Frame::frame_of_track))]
+fn frame_of_track(banks: Banks, places: Places, track: Track, player: Player) -> Framed
+    ensures { result ≡ frame_of_track banks.entry.bank8.now banks.entry.banka.now places track player }
 {
-    let voices = track.voices;
-    let none = [0u32; 4];
-    if record::record_fits(voices, player) {
-        if player.stopped == 0 {
-            return settle(bank8, banka, places, voices, player);
-        }
-        return without_events(Answer::Stopped, none, player);
+    if !record::record_fits(track.voices, player) {
+        return without_events(Answer::Refused(Refusal::InvalidRecord), [0; 4], player);
     }
-    without_events(Answer::Refused(refusal::INVALID_RECORD), none, player)
+    if player.stopped != 0 {
+        return without_events(Answer::Stopped, [0; 4], player);
+    }
+    settle(banks, places, track.voices, player)
 }
 
 impl Player {
     // Tests 1 to 9 and 19. The record has the header's transpose and window; refused, it is all 0.
-    pub fn start(bank8: &[u8], banka: &[u8], places: Places, track: u32) -> Started
-        ensures { Answers told_started result (start_of bank8.now banka.now places track) }
+    #[tactic(auto, unfolding(crate::specs::Frame::start_of))]
+    pub fn start(banks: Banks, places: Places, track: u32) -> Started
+        ensures { Answers told_started result (start_of banks.entry.bank8.now banks.entry.banka.now places track) }
     {
-        let opened = header::open(bank8, banka, places, track);
-        let opened_track = opened.track;
-        let player = record::fresh(opened_track.transpose, opened_track.window);
-        Started {
-            number: opened.number,
-            player,
+        match header::open(banks, places, track) {
+            Ok(track) => {
+                Started {
+                    refusal: None,
+                    player: record::fresh(track.transpose, track.window),
+                }
+            }
+            Err(refusal) => {
+                Started {
+                    refusal: Some(refusal),
+                    player: record::fresh(0, 0),
+                }
+            }
         }
     }
 
     // The next frame: tests 1 to 9 and 19, then 16, then Stopped, then reads.
-    pub fn frame<'a>(self, bank8: &'a [u8], banka: &'a [u8], places: Places, track: u32) -> Framed
-        ensures { Answers told_framed result (frame_of bank8.now banka.now places track self) }
+    #[tactic(auto, unfolding(crate::specs::Frame::frame_of))]
+    pub fn frame(self, banks: Banks, places: Places, track: u32) -> Framed
+        ensures { Answers told_framed result (frame_of banks.entry.bank8.now banks.entry.banka.now places track self) }
     {
-        let opened = header::open(bank8, banka, places, track);
-        let number = opened.number;
-        if number == 0 {
-            let opened_track = opened.track;
-            return frame_of_track(bank8, banka, places, opened_track, self);
+        match header::open(banks, places, track) {
+            Ok(track) => frame_of_track(banks, places, track, self),
+            Err(refusal) => without_events(Answer::Refused(refusal), [0; 4], self),
         }
-        let none = [0u32; 4];
-        without_events(Answer::Refused(number), none, self)
     }
 }

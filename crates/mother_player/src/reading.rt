@@ -1,6 +1,6 @@
 // A channel that reads through its block and its playlist until a note, the track's end or a refusal.
 ghost use Rattle.std.specs.Prelude.{◌≡◌, ◌<◌};
-ghost use Rattle.mother_format.specs.Bank.{banks};
+ghost use Rattle.mother_format.specs.Bank.{bytes_of};
 ghost use Rattle.mother_format.specs.Playlist.{row_limit};
 ghost use Rattle.mother_player.specs.Reading.{
   cursor_of,
@@ -10,6 +10,7 @@ ghost use Rattle.mother_player.specs.Reading.{
   length_set,
   begun,
   again,
+  note_begun,
   step_of,
   list_step,
   block_step,
@@ -21,10 +22,11 @@ ghost use Rattle.mother_player.specs.Reading.{
 
 use crate::record::Channel;
 use crate::release;
-use engine_base::refusal;
+use engine_base::answer::Turned;
+use engine_base::refusal::Refusal;
 use engine_base::time::Frames;
-use mother_format::bank::Places;
-use mother_format::channel::{Cursor, Played, Setting};
+use mother_format::bank::{Banks, Places};
+use mother_format::channel::{Cursor, Played, Setting, Source};
 use mother_format::command::Kind;
 use mother_format::playlist::Entry;
 use mother_format::{channel, playlist};
@@ -52,6 +54,7 @@ pub struct Reader {
 }
 
 // What a command does.
+// No Result of the other cases: the definitions and laws go by all of them side by side.
 #[derive(Clone, Copy)]
 pub enum Stepped {
     Again,
@@ -59,8 +62,8 @@ pub enum Stepped {
     Note,
     // of the track
     End,
-    // the number of the refusal, the offset of the byte, and of 10 to 15 its address
-    Refused(u32, u16, u32),
+    // the offset of the byte, and of 10 to 15 its address
+    Refused(Refusal, u16, u32),
 }
 
 // With the channel after it.
@@ -68,16 +71,6 @@ pub enum Stepped {
 pub struct Step {
     pub stepped: Stepped,
     pub reader: Reader,
-}
-
-// What a channel does in a frame.
-#[derive(Clone, Copy)]
-pub enum Turned {
-    // unused
-    Off,
-    Plays,
-    End,
-    Refused(u32, u16, u32),
 }
 
 #[derive(Clone, Copy)]
@@ -93,71 +86,81 @@ pub struct Turn {
     pub count: u32,
 }
 
-fn cursor_of(channel: Channel) -> Cursor
-    ensures { result ≡ cursor_of channel }
-{
-    Cursor {
-        next: channel.next,
-        loop_start: channel.loop_start,
-        counter: channel.counter,
+// Like the old engine's, over a record of its own that the C interface fixes: a trait of all its fields would be longer.
+impl From<Channel> for Cursor {
+    ghost from_gives = { λ channel cursor. cursor ≡ cursor_of channel };
+
+    fn from(channel: Channel) -> Cursor {
+        Cursor {
+            next: channel.next,
+            loop_start: channel.loop_start,
+            counter: channel.counter,
+        }
     }
 }
 
-fn at_cursor(mut channel: Channel, cursor: Cursor) -> Channel
+fn at_cursor(channel: Channel, cursor: Cursor) -> Channel
     ensures { result ≡ at_cursor channel cursor }
 {
-    channel.next = cursor.next;
-    channel.loop_start = cursor.loop_start;
-    channel.counter = cursor.counter;
-    channel
+    Channel {
+        next: cursor.next,
+        loop_start: cursor.loop_start,
+        counter: cursor.counter,
+        ..channel
+    }
 }
 
 // At the start of the block that a word names, with the address of the word after it.
-fn enter(mut channel: Channel, block: u16, list: u16) -> Channel
+fn enter(channel: Channel, block: u16, list: u16) -> Channel
     requires { channel.row < row_limit }
     ensures { result ≡ entered channel block list }
 {
-    channel.list = list;
-    channel.row += 1;
-    channel.block = block;
-    channel.next = 0;
-    channel.loop_start = 0;
-    channel.counter = 0;
-    channel
+    Channel {
+        list,
+        row: channel.row + 1,
+        block,
+        next: 0,
+        loop_start: 0,
+        counter: 0,
+        ..channel
+    }
 }
 
 // Before the word at an address, with no block word read in this row.
-fn go_to(mut channel: Channel, list: u16) -> Channel
+fn go_to(channel: Channel, list: u16) -> Channel
     ensures { result ≡ went_to channel list }
 {
-    channel.list = list;
-    channel.row = 0;
-    channel
+    Channel {
+        list,
+        row: 0,
+        ..channel
+    }
 }
 
 // BL: on the triangle it sets the linear counter byte as well.
-fn set_length(mut channel: Channel, kind: Kind, length: Frames) -> Channel
+fn set_length(channel: Channel, kind: Kind, length: Frames) -> Channel
     ensures { result ≡ length_set channel length kind }
 {
-    channel.length = length;
-    match kind {
-        Kind::Square => channel,
-        Kind::Triangle => {
-            channel.ctrl = release::linear_of(channel.timbre, length);
-            channel
-        }
-        Kind::Noise => channel,
+    let ctrl = match kind {
+        Kind::Square | Kind::Noise => channel.ctrl,
+        Kind::Triangle => release::linear_of(channel.timbre, length),
+    };
+    Channel {
+        length,
+        ctrl,
+        ..channel
     }
 }
 
 // A note's record: the frames left are the current length.
-fn begin(mut channel: Channel, b: u8) -> Channel
+fn begin(channel: Channel, b: u8) -> Channel
     ensures { result ≡ begun channel b }
 {
-    let length = channel.length;
-    channel.left = length;
-    channel.sounding = b;
-    channel
+    Channel {
+        left: channel.length,
+        sounding: b,
+        ..channel
+    }
 }
 
 fn go_on(place: Place, channel: Channel, setting: Setting) -> Step
@@ -173,49 +176,50 @@ fn go_on(place: Place, channel: Channel, setting: Setting) -> Step
     }
 }
 
+fn note_begun(reader: Reader, channel: Channel) -> Step
+    ensures { result ≡ note_begun reader channel }
+{
+    Step {
+        stepped: Stepped::Note,
+        reader: Reader { channel, ..reader },
+    }
+}
+
 // What the command of a block does to a channel that stands behind it.
-fn step_of(kind: Kind, mut reader: Reader, played: Played) -> Step
+fn step_of(kind: Kind, reader: Reader, played: Played) -> Step
     ensures { result ≡ step_of kind reader played }
 {
-    let mut channel = reader.channel;
-    let mut setting = reader.setting;
+    let channel = reader.channel;
+    let setting = reader.setting;
     match played {
         Played::End => go_on(Place::List, channel, setting),
-        Played::Transpose(m, _) => {
-            setting.transpose = m;
-            go_on(Place::Block, channel, setting)
+        Played::Transpose(transpose, _) => {
+            go_on(
+                Place::Block,
+                channel,
+                Setting {
+                    transpose,
+                    ..setting
+                },
+            )
         }
-        Played::Window(t, _) => {
-            setting.window = t;
-            go_on(Place::Block, channel, setting)
+        Played::Window(window, _) => { go_on(Place::Block, channel, Setting { window, ..setting }) }
+        Played::EndLoop(_) | Played::BeginLoop(_, _) => go_on(Place::Block, channel, setting),
+        Played::Timbre(timbre, ctrl, _) => {
+            let timbred = Channel {
+                timbre,
+                ctrl,
+                ..channel
+            };
+            go_on(Place::Block, timbred, setting)
         }
-        Played::EndLoop(_) => go_on(Place::Block, channel, setting),
-        Played::BeginLoop(_, _) => go_on(Place::Block, channel, setting),
         Played::Length(b, length, _) => {
-            let long = set_length(channel, kind, length);
-            let begun = begin(long, b);
-            reader.channel = begun;
-            Step {
-                stepped: Stepped::Note,
-                reader,
-            }
+            note_begun(reader, begin(set_length(channel, kind, length), b))
         }
-        Played::Timbre(x, c, _) => {
-            channel.timbre = x;
-            channel.ctrl = c;
-            go_on(Place::Block, channel, setting)
-        }
-        Played::Note(b, _) => {
-            let begun = begin(channel, b);
-            reader.channel = begun;
+        Played::Note(b, _) => note_begun(reader, begin(channel, b)),
+        Played::Refused(refusal, at, address) => {
             Step {
-                stepped: Stepped::Note,
-                reader,
-            }
-        }
-        Played::Refused(number, at, address) => {
-            Step {
-                stepped: Stepped::Refused(number, at, address),
+                stepped: Stepped::Refused(refusal, at, address),
                 reader,
             }
         }
@@ -223,55 +227,46 @@ fn step_of(kind: Kind, mut reader: Reader, played: Played) -> Step
 }
 
 // The command of the block at the channel's offset.
-fn block_step<'a>(
-    bank8: &'a [u8],
-    banka: &'a [u8],
-    places: Places,
-    kind: Kind,
-    mut reader: Reader,
-) -> Step
-    ensures { result ≡ block_step bank8.now banka.now places kind reader }
+fn block_step(banks: Banks, places: Places, kind: Kind, reader: Reader) -> Step
+    ensures { result ≡ block_step banks.entry.bank8.now banks.entry.banka.now places kind reader }
 {
     let channel = reader.channel;
-    let setting = reader.setting;
-    let played = channel::played_at(
-        bank8,
-        banka,
+    let source = Source {
+        banks,
         places,
         kind,
-        channel.block,
-        setting,
-        channel.length,
-        channel.next,
-    );
-    let cursor = channel::moved(cursor_of(channel), played);
-    let behind = at_cursor(channel, cursor);
-    reader.channel = behind;
-    step_of(kind, reader, played)
+        start: channel.block,
+    };
+    let played = channel::played_at(source, reader.setting, channel.length, channel.next);
+    let cursor = channel::moved(Cursor::from(channel), played);
+    let behind = Reader {
+        channel: at_cursor(channel, cursor),
+        ..reader
+    };
+    step_of(kind, behind, played)
 }
 
 // The word of the playlist; by_goto if a goto led to it.
-fn list_step(bank8: &[u8], banka: &[u8], reader: Reader, by_goto: bool) -> Step
-    ensures { result ≡ list_step (banks bank8.now banka.now) reader by_goto }
+fn list_step(banks: Banks, reader: Reader, by_goto: bool) -> Step
+    ensures { result ≡ list_step (bytes_of banks.entry) reader by_goto }
 {
     let channel = reader.channel;
     let setting = reader.setting;
-    let entry = playlist::entry_at(bank8, banka, channel.list, channel.row, by_goto);
+    let entry = playlist::entry_at(banks, channel.list, channel.row, by_goto);
     match entry {
-        Entry::End => {
+        Ok(Entry::End) => {
             Step {
                 stepped: Stepped::End,
                 reader,
             }
         }
-        Entry::Goto(target) => go_on(Place::Target, go_to(channel, target), setting),
-        Entry::Block(block, list) => {
-            let inside = enter(channel, block, list);
-            go_on(Place::Block, inside, setting)
+        Ok(Entry::Goto(target)) => go_on(Place::Target, go_to(channel, target), setting),
+        Ok(Entry::Block(block, list)) => {
+            go_on(Place::Block, enter(channel, block, list), setting)
         }
-        Entry::Refused => {
+        Err(refusal) => {
             Step {
-                stepped: Stepped::Refused(refusal::BAD_PLAYLIST, 0, 0),
+                stepped: Stepped::Refused(refusal, 0, 0),
                 reader,
             }
         }
@@ -279,20 +274,15 @@ fn list_step(bank8: &[u8], banka: &[u8], reader: Reader, by_goto: bool) -> Step
 }
 
 // The next command, wherever it stands.
-fn step_from<'a>(
-    bank8: &'a [u8],
-    banka: &'a [u8],
-    places: Places,
-    kind: Kind,
-    reader: Reader,
-) -> Step
-    ensures { result ≡ step_from bank8.now banka.now places kind reader }
+// The place is data that a channel keeps from step to step: a function stored in its place would say no more.
+#[tactic(auto, unfolding(crate::specs::Reading::step_from))]
+fn step_from(banks: Banks, places: Places, kind: Kind, reader: Reader) -> Step
+    ensures { result ≡ step_from banks.entry.bank8.now banks.entry.banka.now places kind reader }
 {
-    let place = reader.place;
-    match place {
-        Place::Block => block_step(bank8, banka, places, kind, reader),
-        Place::List => list_step(bank8, banka, reader, false),
-        Place::Target => list_step(bank8, banka, reader, true),
+    match reader.place {
+        Place::Block => block_step(banks, places, kind, reader),
+        Place::List => list_step(banks, reader, false),
+        Place::Target => list_step(banks, reader, true),
     }
 }
 
@@ -300,80 +290,66 @@ fn step_from<'a>(
 fn offset_at(reader: Reader) -> u16
     ensures { result ≡ offset_at reader }
 {
-    let place = reader.place;
-    match place {
+    match reader.place {
         Place::Block => reader.channel.next,
-        Place::List => 0,
-        Place::Target => 0,
+        Place::List | Place::Target => 0,
     }
 }
 
 // A channel about to read: without a block the header's playlist comes next.
+#[tactic(auto, unfolding(crate::specs::Reading::first_reader))]
 pub(crate) fn reader_of(list: u16, channel: Channel, setting: Setting) -> Reader
     ensures { result ≡ first_reader list channel setting }
 {
     if channel.block == 0 {
-        let first = go_to(channel, list);
-        return Reader {
+        Reader {
             place: Place::List,
-            channel: first,
+            channel: go_to(channel, list),
             setting,
-        };
-    }
-    Reader {
-        place: Place::Block,
-        channel,
-        setting,
+        }
+    } else {
+        Reader {
+            place: Place::Block,
+            channel,
+            setting,
+        }
     }
 }
 
 fn turn_of(turned: Turned, began: bool, reader: Reader, count: u32) -> Turn
     ensures { result ≡ record { turned = turned; began = began; channel = reader.channel; setting = reader.setting; count = count } }
 {
-    let channel = reader.channel;
-    let setting = reader.setting;
     Turn {
         turned,
         began,
-        channel,
-        setting,
+        channel: reader.channel,
+        setting: reader.setting,
         count,
     }
 }
 
 // Commands until a note, the track's end or a refusal.
-pub(crate) fn read_until<'a>(
-    bank8: &'a [u8],
-    banka: &'a [u8],
-    places: Places,
-    kind: Kind,
-    start: Reader,
-) -> Turn
-    ensures { result ≡ read_until bank8.now banka.now places kind start }
+pub(crate) fn read_until(banks: Banks, places: Places, kind: Kind, start: Reader) -> Turn
+    ensures { result ≡ read_until banks.entry.bank8.now banks.entry.banka.now places kind start }
 {
     let mut reader = start;
-    let mut count: u32 = 0;
-    while count < MOST_COMMANDS {
-        let step = step_from(bank8, banka, places, kind, reader);
-        let stepped = step.stepped;
-        let after = step.reader;
-        match stepped {
-            Stepped::Again => {
-                reader = after;
-                count += 1;
-            }
-            Stepped::Note => return turn_of(Turned::Plays, true, after, count + 1),
-            Stepped::End => return turn_of(Turned::End, false, after, count + 1),
-            Stepped::Refused(number, at, address) => {
-                return turn_of(Turned::Refused(number, at, address), false, after, count)
+    for count in 0..MOST_COMMANDS {
+        let step = step_from(banks, places, kind, reader);
+        reader = step.reader;
+        match step.stepped {
+            Stepped::Again => {}
+            Stepped::Note => return turn_of(Turned::Plays, true, reader, count + 1),
+            Stepped::End => return turn_of(Turned::End, false, reader, count + 1),
+            Stepped::Refused(refusal, at, address) => {
+                return turn_of(Turned::Refused(refusal, at, address), false, reader, count)
             }
         }
     }
     let at = offset_at(reader);
     turn_of(
-        Turned::Refused(refusal::TOO_MANY_COMMANDS, at, 0),
+        Turned::Refused(Refusal::TooManyCommands, at, 0),
         false,
         reader,
-        count,
+        MOST_COMMANDS,
     )
 }

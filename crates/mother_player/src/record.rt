@@ -44,6 +44,7 @@ pub struct Player {
     pub channels: [Channel; 4],
 }
 
+// Like the old engine's, over a record of its own that the C interface fixes: a trait of all its fields would be longer.
 fn fresh_channel() -> Channel
     ensures { result ≡ fresh_channel }
 {
@@ -80,9 +81,10 @@ pub(crate) fn fresh(transpose: u8, window: u8) -> Player
 pub(crate) fn stopped() -> Player
     ensures { result ≡ stopped_player }
 {
-    let mut player = fresh(0, 0);
-    player.stopped = 1;
-    player
+    Player {
+        stopped: 1,
+        ..fresh(0, 0)
+    }
 }
 
 // Whether a byte can be sounding in a channel of the kind.
@@ -90,41 +92,25 @@ fn sounds_in(kind: Kind, b: u8) -> bool
     ensures { result ≡ sounds_in kind b }
 {
     match kind {
-        Kind::Square => {
-            if transpose::LAST_KEY < b {
-                return false;
-            }
-            command::is_note(kind, b)
-        }
-        Kind::Triangle => {
-            if transpose::LAST_KEY < b {
-                return false;
-            }
-            command::is_note(kind, b)
-        }
+        Kind::Square | Kind::Triangle => b <= transpose::LAST_KEY && command::is_note(kind, b),
         Kind::Noise => command::is_note(kind, b),
     }
 }
 
+// Like the old engine's, over types and definitions of its own: a trait for both would be longer than the two.
+#[tactic(auto, unfolding(crate::specs::Record::sound_fits))]
 fn sound_fits(kind: Kind, channel: Channel) -> bool
     ensures { result ≡ sound_fits kind channel }
 {
-    if channel.left.count == 0 {
-        return true;
-    }
-    if channel.length.count < channel.left.count {
-        return false;
-    }
-    sounds_in(kind, channel.sounding)
+    let left = channel.left.count;
+    left == 0 || (left <= channel.length.count && sounds_in(kind, channel.sounding))
 }
 
+#[tactic(auto, unfolding(crate::specs::Record::block_fits))]
 fn block_fits(block: u16) -> bool
     ensures { result ≡ block_fits block }
 {
-    if block == 0 {
-        return true;
-    }
-    address::fits(block as usize, 1)
+    block == 0 || address::fits(usize::from(block), 1)
 }
 
 // Only on a square is x of pppx xxxx an envelope.
@@ -132,60 +118,41 @@ fn timbre_fits(kind: Kind, timbre: u8) -> bool
     ensures { result ≡ timbre_fits kind timbre }
 {
     match kind {
-        Kind::Square => field::low5(timbre) <= envelope::LAST_ENVELOPE,
-        Kind::Triangle => true,
-        Kind::Noise => true,
+        Kind::Square => field::low::<5>(timbre) <= envelope::LAST_ENVELOPE,
+        Kind::Triangle | Kind::Noise => true,
     }
 }
 
 // What is not refused under 16: an unused channel, or one that can be played on from.
-fn channel_fits(voice: Voice, channel: Channel) -> bool
+#[tactic(auto, unfolding(crate::specs::Record::channel_fits))]
+fn channel_fits(voice: Option<Voice>, channel: Channel) -> bool
     ensures { result ≡ channel_fits voice channel }
 {
-    let used = voice.used;
-    let kind = voice.kind;
-    if used {
-        if bank::BLOCK_LIMIT < channel.next as usize {
-            return false;
-        }
-        if bank::BLOCK_LIMIT < channel.loop_start as usize {
-            return false;
-        }
-        if !sound_fits(kind, channel) {
-            return false;
-        }
-        if !block_fits(channel.block) {
-            return false;
-        }
-        return timbre_fits(kind, channel.timbre);
-    }
-    true
+    let Some(voice) = voice else {
+        return true;
+    };
+    usize::from(channel.next) <= bank::BLOCK_LIMIT
+        && usize::from(channel.loop_start) <= bank::BLOCK_LIMIT
+        && sound_fits(voice.kind, channel)
+        && block_fits(channel.block)
+        && timbre_fits(voice.kind, channel.timbre)
 }
 
 // What 16 tests of the used channels.
-fn channels_fit(voices: [Voice; 4], channels: [Channel; 4]) -> bool
+// Like the old engine's, over types and definitions of its own: a trait for both would be longer than the two.
+fn channels_fit(voices: [Option<Voice>; 4], channels: [Channel; 4]) -> bool
     ensures { result ≡ channels_fit voices channels }
 {
-    let mut i: usize = 0;
-    while i < 4 {
-        let voice = voices[i];
-        let channel = channels[i];
-        if channel_fits(voice, channel) {
-            i += 1;
-        } else {
-            return false;
-        }
-    }
-    true
+    voices
+        .iter()
+        .zip(&channels)
+        .all(|(voice, channel)| channel_fits(*voice, *channel))
 }
 
 // What 16 tests.
-pub(crate) fn record_fits(voices: [Voice; 4], player: Player) -> bool
+#[tactic(auto, unfolding(crate::specs::Record::record_fits))]
+pub(crate) fn record_fits(voices: [Option<Voice>; 4], player: Player) -> bool
     ensures { result ≡ record_fits voices player }
 {
-    if transpose::is_odd(player.transpose) {
-        return false;
-    }
-    let channels = player.channels;
-    channels_fit(voices, channels)
+    !transpose::is_odd(player.transpose) && channels_fit(voices, player.channels)
 }

@@ -4,7 +4,9 @@ use mathlib.Core.List.{List, [], ◌∷◌, ◌++◌, map, flat_map}
 use mathlib.Core.Path.{◌≡◌, refl, ap₂}
 use lib.ListN.{length, get_or, take, drop}
 use Rattle.engine_base.specs.Told.{Told}
-use Rattle.engine_base.specs.Refusal.{invalid_command, invalid_note, past_lengths, no_length, past_data}
+use Rattle.engine_base.specs.Refusal.{number_of as number}
+use Rattle.engine_base.specs.declared.refusal.Refusal.{Refusal}
+use Rattle.engine_base.specs.declared.refusal.Refusal.TheVariants.{InvalidCommand, InvalidNote, PastLengths, NoLength, PastData}
 use Rattle.metroid_format.specs.Command.{is_key, is_preset, note_after, command_of, command_at}
 use Rattle.engine_base.specs.Address.{bank_start, bank_end, within}
 use Rattle.metroid_format.specs.Bank.{published}
@@ -33,7 +35,7 @@ use Rattle.metroid_format.specs.Header.{
 }
 use Rattle.metroid_format.specs.declared.bank.Places.{Places}
 use Rattle.metroid_format.specs.Channel.{length_fault, played_at, step_of, read_from, read_until}
-use Rattle.metroid_format.specs.Timeline.{passed_of, pass_from, timeline_of, stop_of, soonest_from}
+use Rattle.metroid_format.specs.Timeline.{passed_of, pass_from, timeline_of, soonest_from}
 use Rattle.engine_base.specs.Release.{dynamic}
 use Rattle.metroid_player.specs.Release.{release_of}
 use Rattle.engine_base.specs.Ctrl1.{default_ctrl1, combined}
@@ -171,9 +173,9 @@ sample puts verdict track = showing puts 0 verdict 0 [] track
 abbrev passes : ℕ → ℕ → Told
 passes frame channel = record { number = 0; values = frame ∷ channel ∷ [] }
 
-abbrev refused : ℕ → ℕ → ℕ → ℕ → ℕ → Told
-refused number channel offset frame address =
-    record { number = number; values = channel ∷ offset ∷ frame ∷ address ∷ [] }
+abbrev refused : Refusal → ℕ → ℕ → ℕ → ℕ → Told
+refused refusal channel offset frame address =
+    record { number = number refusal; values = channel ∷ offset ∷ frame ∷ address ∷ [] }
 
 -- each as the track of its place in the list
 abbrev numbered : ℕ → List (ℕ → Sample) → List Sample
@@ -190,15 +192,15 @@ samples =
     ∷ sample (triangle (0xc0 ∷ 0xb0 ∷ 0x2a ∷ 0xff ∷ 0x00 ∷ [])) (passes 1536 2)
     ∷ sample (triangle (0xff ∷ 0x00 ∷ [])) (passes 0 2)
     ∷ showing (triangle (0xb0 ∷ 0x00 ∷ 0x00 ∷ [])) 0 (passes 6 2) 1 (sees 0 left 6 ∷ sees 0 kind note ∷ sees 0 key 0 ∷ [])
-    ∷ sample (triangle (0x2a ∷ 0x00 ∷ [])) (refused no_length 2 0 0 0x80a0)
-    ∷ sample (triangle (0xb0 ∷ 0x81 ∷ [])) (refused invalid_note 2 1 0 0x80c1)
-    ∷ sample (triangle (0xb0 ∷ 0x2a ∷ 0xa0 ∷ [])) (refused invalid_command 2 2 6 0x80e2)
+    ∷ sample (triangle (0x2a ∷ 0x00 ∷ [])) (refused NoLength 2 0 0 0x80a0)
+    ∷ sample (triangle (0xb0 ∷ 0x81 ∷ [])) (refused InvalidNote 2 1 0 0x80c1)
+    ∷ sample (triangle (0xb0 ∷ 0x2a ∷ 0xa0 ∷ [])) (refused InvalidCommand 2 2 6 0x80e2)
     ∷ sample (with_square (0xb0 ∷ 0x2a ∷ 0x00 ∷ []) (0xb0 ∷ 0x2a ∷ 0xa0 ∷ [])) (passes 6 0)
-    ∷ sample (with_noise (0xb0 ∷ 0x2a ∷ 0xa0 ∷ []) (0xb0 ∷ 0x04 ∷ 0x00 ∷ [])) (refused invalid_command 2 2 6 0x8122)
+    ∷ sample (with_noise (0xb0 ∷ 0x2a ∷ 0xa0 ∷ []) (0xb0 ∷ 0x04 ∷ 0x00 ∷ [])) (refused InvalidCommand 2 2 6 0x8122)
     ∷ sample (triangle_in 0x1f (0xb8 ∷ 0x2a ∷ 0x00 ∷ [])) (passes 6 2)
-    ∷ sample (triangle_in 0x1f (0xb9 ∷ 0x2a ∷ 0x00 ∷ [])) (refused past_lengths 2 0 0 0x8160)
+    ∷ sample (triangle_in 0x1f (0xb9 ∷ 0x2a ∷ 0x00 ∷ [])) (refused PastLengths 2 0 0 0x8160)
     ∷ sample (last_byte 0x00) (passes 0 2)
-    ∷ sample (last_byte 0xb0) (refused past_data 2 1 0 0xc000)
+    ∷ sample (last_byte 0xb0) (refused PastData 2 1 0 0xc000)
     ∷ showing (square (0xb0 ∷ 0x2a ∷ 0x00 ∷ [])) 0xb3 (passes 6 0) 6
     (sees 0 ctrl1 0xb4 ∷ sees 1 ctrl1 0xb2 ∷ sees 2 ctrl1 0xb3 ∷ sees 5 ctrl1 0xb3 ∷ sees 0 left 6 ∷ sees 5 left 1 ∷ [])
     ∷ showing (square (0xb0 ∷ 0x2a ∷ 0x00 ∷ [])) 0 (passes 6 0) 6
@@ -249,7 +251,7 @@ found_in bank places s = (
 )
 
 found : Sample → Told × List Seen
-unfolding flat_map samples is_key is_preset note_after command_of command_at within word_at tables_fit places_fit header_address header_of window_fits envelope_numbers_fit envelope_address envelope_ends square_ends squares_end address_fits addresses_fit all_unused header_number number_of voice_of voices_of track_of open_track length_fault counter_of played_at step_of read_from read_until passed_of pass_from timeline_of dynamic release_of default_ctrl1 combined ctrl1_at sound_fits channel_fits record_fits period_at envelope_of melodic_rest note_ctrl1 melodic_sound noise_sound sound_of turn_of settle_from frame_of_track frame_of start_of frames_from run_of stop_of soonest_from verdict_of
+unfolding flat_map samples is_key is_preset note_after command_of command_at within word_at tables_fit places_fit header_address header_of window_fits envelope_numbers_fit envelope_address envelope_ends square_ends squares_end address_fits addresses_fit all_unused header_number number_of voice_of voices_of track_of open_track length_fault counter_of played_at step_of read_from read_until passed_of pass_from timeline_of dynamic release_of default_ctrl1 combined ctrl1_at sound_fits channel_fits record_fits period_at envelope_of melodic_rest note_ctrl1 melodic_sound noise_sound sound_of turn_of settle_from frame_of_track frame_of start_of frames_from run_of soonest_from verdict_of
 found s = found_in (bank_with s.puts.last) (counted (length samples) (published s.default 0)) s
 
 abbrev expected : Sample → Told × List Seen

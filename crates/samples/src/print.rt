@@ -3,16 +3,21 @@ use metroid_check::verdict::Verdict;
 use metroid_player::frame::Framed;
 use metroid_text::line::LINE_MOST;
 
+// Prints the line that `put` puts into a buffer.
+fn line<F: FnOnce(&mut [u8]) -> usize>(put: F)
+    requires { F.IsAlwaysCallable put }
+{
+    let mut out = [0; LINE_MOST];
+    let n = put(&mut out);
+    io::write_all(1, out.get(..n).unwrap_or(&out));
+}
+
 pub(crate) fn verdict(verdict: Verdict) {
-    let mut out = [0u8; LINE_MOST];
-    let n = metroid_text::verdict::text(verdict, &mut out);
-    io::write_all(1, &out[..n]);
+    line(|out| metroid_text::verdict::text(verdict, out));
 }
 
 pub(crate) fn answer(framed: Framed) {
-    let mut out = [0u8; LINE_MOST];
-    let n = metroid_text::answer::line(framed, &mut out);
-    io::write_all(1, &out[..n]);
+    line(|out| metroid_text::answer::line(framed, out));
 }
 
 // A number after a space.

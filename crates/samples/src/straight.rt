@@ -1,20 +1,13 @@
 // Straight reading and writing.
 use crate::print;
+use engine_base::refusal::Refusal;
 use metroid_format::command::Kind;
 use metroid_format::words;
-use metroid_format::words::{Reading, Writing};
+use metroid_format::words::{ReadError, Reading, Writing};
 
-fn print_word(word: u16) {
-    print::hex(word as u64, 4);
-}
-
-fn print_words(list: &[u16], count: usize) {
-    let mut i: usize = 0;
-    while i < list.len() {
-        if i < count {
-            print_word(list[i]);
-        }
-        i += 1;
+fn print_words(words: &[u16]) {
+    for word in words {
+        print::hex(u64::from(*word), 4);
     }
 }
 
@@ -23,51 +16,48 @@ fn print_number(text: &[u8], number: u64) {
     io::print_decimal(1, number);
 }
 
+fn print_refusal(refusal: Refusal) {
+    print_number(b"refused ", u64::from(refusal.number()));
+}
+
 fn print_reading(reading: Reading) {
     match reading {
-        Reading::Wrote(count) => print_number(b"read ", count as u64),
-        Reading::Refused(number, at) => {
-            print_number(b"refused ", number as u64);
+        Ok(count) => print_number(b"read ", count as u64),
+        Err(ReadError::Byte(refusal, at)) => {
+            print_refusal(refusal);
             print_number(b" at ", at as u64);
         }
-        Reading::NoRoom => print_number(b"refused ", 18),
+        Err(ReadError::NoRoom) => print_refusal(Refusal::NoRoom),
     }
 }
 
 fn print_writing(writing: Writing) {
     match writing {
-        Writing::Wrote(count) => print_number(b"wrote ", count as u64),
-        Writing::InvalidWord => print_number(b"refused ", 17),
-        Writing::NoRoom => print_number(b"refused ", 18),
-    }
-}
-
-fn counted(reading: Reading) -> usize {
-    match reading {
-        Reading::Wrote(count) => count,
-        Reading::Refused(_, _) => 0,
-        Reading::NoRoom => 0,
+        Ok(count) => print_number(b"wrote ", count as u64),
+        Err(refusal) => print_refusal(refusal),
     }
 }
 
 // The answer and the words.
 fn show(bytes: &[u8]) {
-    let mut list = [0u16; 256];
+    let mut list = [0; 256];
     let reading = words::read_words(Kind::Melodic, bytes, &mut list);
     print_reading(reading);
-    print_words(&list, counted(reading));
+    if let Ok(count) = reading {
+        print_words(list.get(..count).unwrap_or(&list));
+    }
     io::write_all(1, b"\n");
 }
 
 // The answer alone.
 fn show_count(bytes: &[u8]) {
-    let mut list = [0u16; 256];
+    let mut list = [0; 256];
     print_reading(words::read_words(Kind::Melodic, bytes, &mut list));
     io::write_all(1, b"\n");
 }
 
 fn show_list(list: &[u16]) {
-    let mut bytes = [0u8; 300];
+    let mut bytes = [0; 300];
     print_writing(words::write_words(Kind::Melodic, list, &mut bytes));
     io::write_all(1, b"\n");
 }
@@ -81,7 +71,7 @@ pub(crate) fn published() {
 
 // Data as long as the limit, and longer.
 pub(crate) fn limits() {
-    let mut ends = [0xffu8; 300];
+    let mut ends = [0xff; 300];
     show_count(&ends);
     ends[256] = 0;
     show_count(&ends);
@@ -96,13 +86,13 @@ pub(crate) fn limits() {
 
 // Lists as long as the limit, and longer.
 pub(crate) fn lists() {
-    let mut rests = [0x0002u16; 258];
+    let mut rests = [0x0002; 258];
     rests[255] = 0;
     show_list(&rests[..256]);
     rests[255] = 2;
     rests[256] = 0;
     show_list(&rests[..257]);
-    let mut long = [0x2ab0u16; 129];
+    let mut long = [0x2ab0; 129];
     long[128] = 0;
     show_list(&long);
     show_list(&long[1..]);

@@ -3,8 +3,8 @@ use engine_base::{address, buffer};
 
 // Puts values at an address.
 pub(crate) fn put(bytes: &mut [u8], address: usize, values: &[u8]) {
-    if address::BANK_START <= address {
-        buffer::fill8(bytes, address - address::BANK_START, values);
+    if let Some(at) = address.checked_sub(address::BANK_START) {
+        buffer::fill(bytes, at, values);
     }
 }
 

@@ -2,18 +2,17 @@
 // start answers, and one for each frame's answer (metroid_text::answer).
 #![tactic(auto)]
 
-ghost use Rattle.std.specs.Prelude.{◌≤◌, ◌≡◌, length, take, IfOk};
-ghost use Rattle.io.specs.Counts.{IsPrefixLen};
-ghost use Rattle.metroid_text.specs.Line.{line_most};
+ghost use Rattle.std.specs.Prelude.{◌≤◌, ◌≡◌, length, IfOk};
+ghost use Rattle.metroid_text.specs.Verdict.{verdict_line};
 ghost use Rattle.metroid_text.specs.Answer.{answer_line};
 
+use engine_base::refusal::Refusal;
 use metroid_check::verdict;
 use metroid_check::verdict::Verdict;
 use metroid_format::bank;
 use metroid_format::bank::Places;
 use metroid_player::frame::Framed;
 use metroid_player::record::Player;
-use metroid_text::answer;
 use metroid_text::line::LINE_MOST;
 use std::fs::File;
 use std::io::Read;
@@ -22,65 +21,57 @@ const TRACKS: u32 = 6;
 
 const FRAMES: u32 = 10;
 
-fn print_verdict(track: u32, verdict: Verdict) {
-    let mut out = [0u8; LINE_MOST];
-    let n = metroid_text::verdict::line(track, verdict, &mut out);
-    io::write_all(1, &out[..n]);
-}
-
-fn answer_of(framed: Framed, out: &mut [u8]) -> usize
-    requires { line_most ≤ length out.old }
-    ensures prefix_len { IsPrefixLen result out.new }
-    ensures out_after { take result out.new ≡ answer_line framed }
+// The line of a track's verdict, in a lent buffer.
+fn line_of<'a>(track: u32, verdict: Verdict, out: &'a mut [u8; LINE_MOST]) -> &'a [u8]
+    ensures { result.now ≡ verdict_line track verdict }
 {
-    answer::line(framed, out)
+    let n = metroid_text::verdict::line(track, verdict, out);
+    &out[..n]
 }
 
-fn print_answer(framed: Framed) {
-    let mut out = [0u8; LINE_MOST];
-    let n = answer_of(framed, &mut out);
-    io::write_all(1, &out[..n]);
+// The line of a frame's answer, in a lent buffer.
+fn answer_of<'a>(framed: Framed, out: &'a mut [u8; LINE_MOST]) -> &'a [u8]
+    ensures { result.now ≡ answer_line framed }
+{
+    let n = metroid_text::answer::line(framed, out);
+    &out[..n]
 }
 
-fn print_start(number: u32) {
+fn print_start(refusal: Option<Refusal>) {
+    let number = refusal.map_or(0, |refusal| refusal.number());
     io::write_all(1, b"start ");
-    io::print_decimal(1, number as u64);
+    io::print_decimal(1, u64::from(number));
     io::write_all(1, b"\n");
 }
 
-fn show_frames(bytes: &[u8], places: Places, track: u32, start: Player) {
-    let mut player = start;
-    let mut frame: u32 = 0;
-    while frame < FRAMES {
+fn show_frames(bytes: &[u8], places: Places, track: u32, mut player: Player) {
+    for _ in 0..FRAMES {
         let framed = player.frame(bytes, places, track);
         player = framed.player;
-        print_answer(framed);
-        frame += 1;
+        io::write_all(1, answer_of(framed, &mut [0; LINE_MOST]));
     }
 }
 
 fn show_track(bytes: &[u8], track: u32) {
     let places = bank::published_places(0xb3, 0);
-    print_verdict(track, verdict::check(bytes, places, track));
+    let verdict = verdict::check(bytes, places, track);
+    io::write_all(1, line_of(track, verdict, &mut [0; LINE_MOST]));
     let started = Player::start(bytes, places, track);
-    print_start(started.number);
-    let player = started.player;
-    show_frames(bytes, places, track, player);
+    print_start(started.refusal);
+    show_frames(bytes, places, track, started.player);
 }
 
 fn show_tracks(bytes: &[u8]) {
-    let mut track: u32 = 0;
-    while track < TRACKS {
+    for track in 0..TRACKS {
         show_track(bytes, track);
-        track += 1;
     }
 }
 
-// Fills the buffer as far as the file has bytes; how many it put there.
+// Fills the buffer as far as the file has bytes; how many it put there. A `while`, since a read says how far it came.
 fn read_full(file: &mut File, out: &mut [u8]) -> std::io::Result<usize>
     ensures { IfOk result (λ n. n ≤ length out.new) }
 {
-    let mut done: usize = 0;
+    let mut done = 0;
     while done < out.len() {
         let n = file.read(&mut out[done..])?;
         if n == 0 {
@@ -94,7 +85,7 @@ fn read_full(file: &mut File, out: &mut [u8]) -> std::io::Result<usize>
 fn show_bank(rt: &HostRuntime, name: &str) -> std::io::Result<()> {
     io::write_all(1, name.as_bytes());
     io::write_all(1, b"\n");
-    let mut bytes = [0u8; 16384];
+    let mut bytes = [0; bank::BANK_SIZE];
     let mut file = File::open(rt, name)?;
     let n = read_full(&mut file, &mut bytes)?;
     show_tracks(&bytes[..n]);
@@ -102,8 +93,8 @@ fn show_bank(rt: &HostRuntime, name: &str) -> std::io::Result<()> {
 }
 
 fn main(rt: HostRuntime) -> std::io::Result<()> {
-    show_bank(&rt, "plays")?;
-    show_bank(&rt, "faults")?;
-    show_bank(&rt, "headers")?;
-    show_bank(&rt, "silent")
+    for name in ["plays", "faults", "headers", "silent"] {
+        show_bank(&rt, name)?;
+    }
+    Ok(())
 }

@@ -1,29 +1,26 @@
--- The values of an answer are words of 32 bits, and stand one behind the other.
-use Prim.Native.Nat.{ℕ, suc, ◌+◌, ◌≤◌, ◌<◌}
+-- The values of an answer stand one behind the other.
+use Prim.Native.Nat.{ℕ, ◌+◌, ◌<◌}
 use mathlib.Core.List.{List, [], ◌∷◌, ◌++◌, append_assoc}
-use mathlib.Core.Path.{◌≡◌, refl, sym, subst, ap, ◌∙◌}
-use native.Mathlib.Numerals.{add-one}
+use mathlib.Core.Path.{◌≡◌, refl, sym, ◌∙◌}
 use native.Mathlib.Omega.{arith}
-use mir.Syntax.{w32}
-use mir.Val.{Fits}
-use lib.ListN.{length, get_or, drop, drop_of_length-le, length-append}
-use lib.Seq.{sets, length-sets, drop-cons}
+use lib.ListN.{length, length-append}
+use lib.Seq.{sets}
+use Rattle.std.proofs.Common.{map}
+use Rattle.std.proofs.lemmas.List.{ext_get_or, nil_from_length, get_or-map, length-map}
+use Rattle.std.specs.Array.{IsMapOf}
+use Rattle.std.specs.Fn.{Mut, Called}
+use Rattle.std.specs.List.{flat_map}
 use Rattle.engine_base.proofs.Buffers.{sets_append}
 use Rattle.engine_base.specs.Answer.{answer_kind, answer_place}
 use Rattle.engine_base.specs.declared.answer.Answer.{Answer}
-use Rattle.hemgosling.specs.Tell.{head_of, Placed}
-use Rattle.hemgosling.proofs.Sizes.{channel_fits_lem}
-
-pub fault_channel : (a : Answer) → Placed a → (number channel at address : ℕ) →
-    a ≡ Answer.Fault number channel at address → Fits w32 channel
-fault_channel a p number channel at address e = channel_fits_lem (subst Placed e p)
+use Rattle.hemgosling.specs.Tell.{head_of}
 
 three : (a : Answer) → length (answer_place a) ≡ 3
 three Answer.Events = refl
 three Answer.End = refl
 three Answer.Stopped = refl
-three (Answer.Refused number) = refl
-three (Answer.Fault number channel at address) = refl
+three (Answer.Refused refusal) = refl
+three (Answer.Fault refusal channel at address) = refl
 
 -- the kind, four counts, three words of place
 pub head_put : (a : Answer) (counts before : List ℕ) (kind : ℕ) → kind ≡ answer_kind a → (one : List ℕ) → one ≡ sets before 0 (kind ∷ []) →
@@ -40,36 +37,23 @@ behind_head a counts before rest head h last l four =
     let eight : length (head_of a counts) ≡ 8 = omega (arith, length-append counts (answer_place a), three a) in
     rw (l, h, ← append_assoc counts (answer_place a) rest) (sym (rw eight at (sets_append before 0 (head_of a counts) rest)))
 
--- with the words of i channels written, each so many at its place, the rest is still to come
-module _ {A : Type 0} (told : A → List ℕ) (all : List A → List ℕ) (place : ℕ → ℕ) where
-  pub record Putting (before : List ℕ) (events : List A) (now : List ℕ) (i : ℕ) : Type 0 where
-    pub within : i ≤ 4
-    pub four : length events ≡ 4
-    pub same : sets before (place 0) (all events) ≡ sets now (place i) (all (drop i events))
-    pub size : length now ≡ length before
+-- the words of the events, one channel behind the other
+module _ {A F : Type 0} (g : Mut F (A × Unit {0}) (List ℕ)) (told : A → List ℕ) (gives : (f : F) (e : A) (words : List ℕ) (f' : F) → Called g f (e, tt) words f' → words ≡ told e) where
+  words_of : {f : F} {n : ℕ} (events : List A) (words : List (List ℕ)) → length events ≡ n → IsMapOf g f events words n → words ≡ map told events
+  words_of [] words n m = nil_from_length words (m.long ∙ sym n)
+  words_of (e ∷ events) words n m =
+      ext_get_or [] words (map told (e ∷ events)) (m.long ∙ sym n ∙ sym (length-map (e ∷ events) told))
+      λ i b. (
+      let h : i < length (e ∷ events) = omega (arith, m.long) in
+      let k = (m.at i e [] (omega (arith, m.long))).2 in
+      gives _ _ _ _ k ∙ sym (get_or-map told (e ∷ events) i e [] h)
+      )
 
-  module _ (before : List ℕ) (events : List A) (now : List ℕ) (i : ℕ) (p : Putting before events now i) where
-    -- words are what `told` gives of the channel
-    pub putting_more : ((e : A) (es : List A) → all (e ∷ es) ≡ told e ++ all es) → ((e : A) → place i + length (told e) ≡ place (i + 1)) →
-        i < 4 → (d : A) (words : List ℕ) → words ≡ told (get_or events i d) → (next : List ℕ) → next ≡ sets now (place i) words →
-        Putting before events next (i + 1)
-    putting_more each wide h d words w next e =
-        let v : i < length events = omega (arith, p.four) in
-        let n : place i + length words ≡ place (i + 1) = rw w (wide (get_or events i d)) in
-        record {
-          within = omega arith;
-          four = p.four;
-          same =
-              p.same
-              ∙ ap (λ es. sets now (place i) (all es)) (drop-cons events i d v)
-              ∙ ap (λ ws. sets now (place i) ws) (each (get_or events i d) (drop (suc i) events))
-              ∙ ap (λ ws. sets now (place i) (ws ++ all (drop (suc i) events))) (sym w)
-              ∙ sets_append now (place i) words (all (drop (suc i) events))
-              ∙ rw (e, ← n, add-one i);
-          size = rw e (length-sets now (place i) words ∙ p.size);
-        }
+  module _ (all : List A → List ℕ) (none : all [] ≡ []) (each : (e : A) (es : List A) → all (e ∷ es) ≡ told e ++ all es) where
+    flat : (events : List A) → flat_map (λ x. x) (map told events) ≡ all events
+    flat [] = sym none
+    flat (e ∷ es) = rw (flat es, each e es)
 
-    pub all_put : all [] ≡ [] → 4 ≤ i → now ≡ sets before (place 0) (all events)
-    all_put none h =
-        let v : length events ≤ i = omega (arith, p.four) in
-        rw (p.same, drop_of_length-le events {i = i} v, none)
+    pub flat_words : {f : F} {n : ℕ} (events : List A) (words : List (List ℕ)) → length events ≡ n → IsMapOf g f events words n →
+        flat_map (λ x. x) words ≡ all events
+    flat_words events words n m = rw (words_of events words n m) (flat events)

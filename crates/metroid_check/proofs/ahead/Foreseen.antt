@@ -4,8 +4,9 @@ use mathlib.Core.List.{List, [], ◌∷◌}
 use mathlib.Core.Path.{◌≡◌, refl, ap, subst}
 use native.Mathlib.Omega.{arith}
 use lib.ListN.{length}
+use Rattle.std.specs.Prelude.{Ok, Err}
 use Rattle.metroid_format.specs.declared.header.Track.{Track}
-use Rattle.metroid_format.specs.declared.timeline.Finish.{Finish}
+use Rattle.metroid_format.specs.Timeline.{Finish}
 use Rattle.metroid_player.specs.Record.{ended_player}
 use Rattle.metroid_check.specs.Run.{last_counted}
 use Rattle.metroid_player.specs.Frame.{frame_of_track}
@@ -55,9 +56,9 @@ nearer_least none x4 = elim x4 [ ]
 
 -- what the frame of the least stop answers, and the record that it gives
 abbrev pub StopsAt : Track → Player → ℕ → Finish → Framed → Type 0
-StopsAt track player i Finish.End f =
+StopsAt track player i (Ok passed) f =
     (f.answer ≡ Answer.End) × (last_counted f.counts ≡ i) × (f.player ≡ ended_player track.restart player.pass_length)
-StopsAt track player i (Finish.Refused number at address) f = (f.answer ≡ Answer.Fault number i at address) × (f.player ≡ player)
+StopsAt track player i (Err (refusal, at, address)) f = (f.answer ≡ Answer.Fault refusal i at address) × (f.player ≡ player)
 
 -- a frame that answers events, after which the least stop is n frames ahead
 abbrev pub PlaysOn : List ℕ → Track → ℕ → ℕ → Finish → Framed → Type 0

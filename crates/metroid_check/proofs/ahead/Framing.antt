@@ -9,10 +9,12 @@ use borrow.Author.Tests.{eq-eqb, ne_eqb, le-leb}
 use lib.Dec.{eqb}
 use lib.ListN.{length, drop, drop_of_length-le}
 use lib.Seq.{sets, sets-eq}
+use Rattle.std.specs.Prelude.{Option, Ok, Err}
+use Rattle.engine_base.specs.declared.refusal.Refusal.{Refusal}
 use Rattle.engine_base.specs.Pick.{pick}
 use Rattle.metroid_format.specs.declared.header.Voice.{Voice}
 use Rattle.metroid_format.specs.declared.header.Track.{Track}
-use Rattle.metroid_format.specs.declared.timeline.Finish.{Finish}
+use Rattle.metroid_format.specs.Timeline.{Finish}
 use Rattle.engine_base.specs.Channels.{four, AtMost}
 use Rattle.engine_base.proofs.Channels.{none_most}
 use Rattle.metroid_player.specs.Record.{ended_player, channels_fit, record_fits}
@@ -76,7 +78,7 @@ sets_all vs l e =
     rw (sets-eq vs l 0 (omega arith), drop_of_length-le l {i = 0 + length vs} (omega arith)) (append-nil vs)
 
 -- the record passes 16
-pub record_fits_lem : (voices : List Voice) (player : Player) → NumbersWithin player → channels_fit voices player.channels ≡ true →
+pub record_fits_lem : (voices : List (Option Voice)) (player : Player) → NumbersWithin player → channels_fit voices player.channels ≡ true →
     record_fits voices player ≡ true
 unfolding record_fits
 record_fits_lem voices player (l, m) f = rw (le-leb _ _ l, le-leb _ _ m, f)
@@ -91,10 +93,10 @@ module _ (bank : List ℕ) (track : Track) where
   pub data FrameOfRun (player : Player) (now : List Ahead) : Framed → Type 0 where
     events : {es : List Event} {counts : List ℕ} {next : Player} {then : List Ahead} → Nearer now then → InRun next then →
         FrameOfRun player now (record { answer = Answer.Events; events = es; counts = counts; frames_left = player.frames_left; player = next })
-    ends : {counts : List ℕ} {i : ℕ} → Due now i Finish.End → last_counted counts ≡ i →
+    ends : {counts : List ℕ} {i : ℕ} → Due now i (Ok tt) → last_counted counts ≡ i →
         FrameOfRun player now (eventless Answer.End counts player.frames_left (ended_player track.restart player.pass_length))
-    faults : {counts : List ℕ} {i number at address : ℕ} → Due now i (Finish.Refused number at address) →
-        FrameOfRun player now (eventless (Answer.Fault number i at address) counts player.frames_left player)
+    faults : {counts : List ℕ} {i : ℕ} {refusal : Refusal} {at address : ℕ} → Due now i (Err (refusal, at, address)) →
+        FrameOfRun player now (eventless (Answer.Fault refusal i at address) counts player.frames_left player)
 
   framed_run : {player : Player} {now : List Ahead} (s : Settled) → length track.voices ≡ 4 → InRun player now → Settles bank track 0 track.voices now s →
       FrameOfRun player now (framed track player s)

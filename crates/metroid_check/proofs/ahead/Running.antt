@@ -2,40 +2,31 @@
 use Prim.Native.Nat.{ℕ, suc, ◌+◌, ◌-◌, ◌/◌, ◌≤◌, ◌<◌}
 use mathlib.Core.Bool.{Bool, true, false}
 use mathlib.Core.List.{List}
-use mathlib.Core.Path.{◌≡◌, refl, sym, ◌∙◌}
+use mathlib.Core.Path.{◌≡◌, refl}
 use native.Mathlib.Omega.{arith}
 use borrow.Author.Tests.{eqb-true, eqb-false, le-leb}
 use lib.Dec.{eqb}
+use Rattle.std.specs.Prelude.{Some, Ok, Err}
+use Rattle.engine_base.specs.declared.refusal.Refusal.{Refusal}
 use Rattle.metroid_format.specs.Command.{data_limit, is_note}
 use Rattle.metroid_format.specs.Channel.{Source, channel_source, read_until}
 use Rattle.metroid_format.specs.Timeline.{Walk}
-use Rattle.engine_base.proofs.Picks.{pick_false, by-test, false_true}
+use Rattle.engine_base.proofs.Picks.{by-test}
 use Rattle.metroid_format.proofs.channel.ReadBound.{Looped, StopHolds, reads, stop_holds, reads_looped}
 use Rattle.metroid_format.proofs.channel.Offsets.{source_within, Within, until_within}
 use Rattle.metroid_format.proofs.timeline.Walked.{WalkAfter, read_walk}
 use Rattle.metroid_format.specs.declared.header.Voice.{Voice}
 use Rattle.metroid_format.specs.declared.header.Track.{Track}
-use Rattle.metroid_format.specs.declared.timeline.Finish.{Finish}
+use Rattle.metroid_format.specs.Timeline.{Finish}
 use Rattle.metroid_format.specs.declared.channel.Cursor.{Cursor}
 use Rattle.metroid_format.specs.declared.channel.Stop.{Stop}
 use Rattle.metroid_player.specs.Record.{cursor_of, sound_fits, channel_fits}
 use Rattle.metroid_player.specs.Frame.{begun, one_off, turn_by, turn_of}
 use Rattle.metroid_player.specs.declared.record.Channel.{Channel}
-use Rattle.metroid_player.specs.declared.frame.Turned.{Turned}
+use Rattle.engine_base.specs.declared.answer.Turned.{Turned}
 use Rattle.metroid_player.specs.declared.frame.Turn.{Turn}
 
--- 16 asks nothing of an unused channel
-pub unused_fits : (voice : Voice) (channel : Channel) → voice.used ≡ false → channel_fits voice channel ≡ true
-unfolding channel_fits
-unused_fits voice channel u = sym (pick_false voice.used _ _ _ u refl)
-
 module _ (bank : List ℕ) (track : Track) where
-  -- an unused channel is off and stays as it is
-  pub turn_unused : (voice : Voice) (channel : Channel) → voice.used ≡ false →
-      turn_of bank track voice channel ≡ record { turned = Turned.Off; began = false; channel = channel; count = 0 }
-  unfolding turn_of
-  turn_unused voice channel u = sym (pick_false voice.used _ _ _ u refl)
-
   -- left to itself the channel stops in n frames: those left of its note, then those of its walk
   pub record Running (voice : Voice) (channel : Channel) (n : ℕ) (finish : Finish) : Type 0 where
     pub walking : ℕ
@@ -48,27 +39,24 @@ module _ (bank : List ℕ) (track : Track) where
 
   -- the record passes 16
   pub running_fits : {voice : Voice} {channel : Channel} {n : ℕ} {finish : Finish} → Running voice channel n finish →
-      channel_fits voice channel ≡ true
+      channel_fits (Some voice) channel ≡ true
   unfolding channel_fits sound_fits
   running_fits {voice} {channel} r =
-      by-test (λ b. b ≡ true) voice.used
-      (λ _.
       rw (le-leb _ _ r.within.next, le-leb _ _ r.within.start)
       (by-test (λ b. b ≡ true) (eqb channel.left.count 0) (λ _. refl) λ z.
       let some : channel.left.count ≡ 0 → ⊥ = eqb-false _ _ z in
       let (l, n) = r.sounds (omega arith) in
-      rw (le-leb _ _ l) n)) λ _.
-      refl
+      rw (le-leb _ _ l) n)
 
   -- what the turn of a used channel is, n frames before its stop
   pub data Turns (voice : Voice) : ℕ → Finish → Turn → Type 0 where
     plays : {began : Bool} {channel : Channel} {count n : ℕ} {finish : Finish} → Running voice (one_off channel) n finish →
         Turns voice (suc n) finish (record { turned = Turned.Plays; began = began; channel = channel; count = count })
     ends : {channel : Channel} {count : ℕ} → 0 < count →
-        Turns voice 0 Finish.End (record { turned = Turned.End; began = false; channel = channel; count = count })
-    faults : {channel : Channel} {number at address count : ℕ} →
-        Turns voice 0 (Finish.Refused number at address)
-        (record { turned = Turned.Refused number at address; began = false; channel = channel; count = count })
+        Turns voice 0 (Ok tt) (record { turned = Turned.End; began = false; channel = channel; count = count })
+    faults : {channel : Channel} {refusal : Refusal} {at address count : ℕ} →
+        Turns voice 0 (Err (refusal, at, address))
+        (record { turned = Turned.Refused refusal at address; began = false; channel = channel; count = count })
 
   module _ (voice : Voice) where
     abbrev source : Source
@@ -99,14 +87,12 @@ module _ (bank : List ℕ) (track : Track) where
         plays_on true count (begun cursor b) l
         (record { walking = walking; frames = e; walk = w; within = p; looped = q; sounds = λ _. (omega arith, s) })
     turn_by_lem channel cursor count Stop.End h p q (e, f) = rw (e, f) (ends h)
-    turn_by_lem channel cursor count (Stop.Refused number at address) h p q (e, f) = rw (e, f) faults
+    turn_by_lem channel cursor count (Stop.Refused refusal at address) h p q (e, f) = rw (e, f) faults
 
-    pub turns : {channel : Channel} {n : ℕ} {finish : Finish} → voice.used ≡ true → Running voice channel n finish →
+    pub turns : {channel : Channel} {n : ℕ} {finish : Finish} → Running voice channel n finish →
         Turns voice n finish (turn_of bank track voice channel)
     unfolding turn_of
-    turns {channel} {n} {finish} u r =
-        by-test (Turns voice n finish) voice.used
-        (λ _.
+    turns {channel} {n} {finish} r =
         by-test (Turns voice n finish) (eqb channel.left.count 0)
         (λ z.
         let none : channel.left.count ≡ 0 = eqb-true _ _ z in
@@ -119,5 +105,4 @@ module _ (bank : List ℕ) (track : Track) where
         (reads_looped source 0 read r.looped)
         (read_walk read r.walk))) λ z.
         let some : channel.left.count ≡ 0 → ⊥ = eqb-false _ _ z in
-        plays_on false 0 channel (omega arith) r) λ f.
-        absurd (false_true (sym f ∙ u))
+        plays_on false 0 channel (omega arith) r

@@ -1,21 +1,21 @@
 -- The start of a run: what is ahead of each used channel is its timeline, and some channel is used.
 use Prim.Native.Nat.{ℕ, ◌≤◌}
 use mathlib.Core.List.{List, [], ◌∷◌, map}
-use mathlib.Core.Path.{◌≡◌, refl, sym, subst, ◌∙◌}
+use mathlib.Core.Path.{◌≡◌, refl, sym, subst}
 use native.Mathlib.Nat.{zero-add}
 use native.Mathlib.Omega.{arith}
 use lib.ListN.{length, replicate}
-use Rattle.engine_base.specs.Pick.{pick}
+use Rattle.std.specs.Prelude.{Option, Some, None, Ok, Err}
+use Rattle.engine_base.specs.declared.refusal.Refusal.{Refusal}
 use Rattle.metroid_format.specs.Timeline.{timeline_of}
 use Rattle.metroid_format.specs.Header.{open_track}
 use Rattle.metroid_format.specs.Channel.{channel_source}
-use Rattle.engine_base.proofs.Picks.{pick_eq, pick_ne, by-test, false_true}
 use Rattle.metroid_format.proofs.header.Opening.{SomeUsed, opens}
 use Rattle.metroid_format.proofs.timeline.Walked.{timeline_walk}
 use Rattle.metroid_format.specs.declared.bank.Places.{Places}
 use Rattle.metroid_format.specs.declared.header.Voice.{Voice}
 use Rattle.metroid_format.specs.declared.header.Track.{Track}
-use Rattle.metroid_format.specs.declared.timeline.Finish.{Finish}
+use Rattle.metroid_format.specs.Timeline.{Finish}
 use Rattle.metroid_player.specs.Record.{fresh_channel, fresh_player, stopped_player, most_frames}
 use Rattle.metroid_player.specs.Frame.{unplayed, frame_of_track, frame_of}
 use Rattle.metroid_player.specs.declared.record.Player.{Player}
@@ -31,10 +31,10 @@ pub data SomeStop : List Ahead → Type 0 where
 
 module _ (bank : List ℕ) (track : Track) where
   -- what is ahead of a channel from its start
-  unfoldable pub ahead_of : Voice → Ahead
-  ahead_of voice =
-      pick voice.used
-      (stop (timeline_of (channel_source bank track voice)).frames (timeline_of (channel_source bank track voice)).finish) nothing
+  abbrev pub ahead_of : Option Voice → Ahead
+  ahead_of None = nothing
+  ahead_of (Some voice) =
+      stop (timeline_of (channel_source bank track voice)).frames (timeline_of (channel_source bank track voice)).finish
 
   fresh_running : (voice : Voice) →
       Running bank track voice fresh_channel
@@ -49,19 +49,13 @@ module _ (bank : List ℕ) (track : Track) where
     sounds = λ h. absurd (omega arith);
   }
 
-  all_fresh : (voices : List Voice) → AllRunning bank track voices (replicate (length voices) fresh_channel) (map ahead_of voices)
-  unfolding ahead_of
+  all_fresh : (voices : List (Option Voice)) → AllRunning bank track voices (replicate (length voices) fresh_channel) (map ahead_of voices)
   all_fresh [] = AllRunning.none
-  all_fresh (v ∷ vs) =
-      by-test (λ a. AllRunning bank track (v ∷ vs) (fresh_channel ∷ replicate (length vs) fresh_channel) (a ∷ map ahead_of vs))
-      v.used
-      (λ u. AllRunning.used u (fresh_running v) (all_fresh vs)) λ u.
-      AllRunning.unused u (all_fresh vs)
+  all_fresh (None ∷ vs) = AllRunning.unused (all_fresh vs)
+  all_fresh (Some v ∷ vs) = AllRunning.used (fresh_running v) (all_fresh vs)
 
-  some_stop : {voices : List Voice} → SomeUsed voices → SomeStop (map ahead_of voices)
-  unfolding ahead_of
-  some_stop (SomeUsed.here {v} {vs} u) =
-      by-test (λ a. SomeStop (a ∷ map ahead_of vs)) v.used (λ _. SomeStop.here) λ f. absurd (false_true (sym f ∙ u))
+  some_stop : {voices : List (Option Voice)} → SomeUsed voices → SomeStop (map ahead_of voices)
+  some_stop SomeUsed.here = SomeStop.here
   some_stop (SomeUsed.later s) = SomeStop.later (some_stop s)
 
   fresh_run : length track.voices ≡ 4 → (n : ℕ) → n ≤ most_frames → InRun bank track (fresh_player n) (map ahead_of track.voices)
@@ -77,10 +71,9 @@ pub record Starts (bank : List ℕ) (track : Track) : Type 0 where
   pub run : (n : ℕ) → n ≤ most_frames → InRun bank track (fresh_player n) (map (ahead_of bank track) track.voices)
   pub some : SomeStop (map (ahead_of bank track) track.voices)
 
-pub starts : (bank : List ℕ) (places : Places) (track : ℕ) → (open_track bank places track).number ≡ 0 →
-    Starts bank (open_track bank places track).track
-starts bank places track e =
-    let opened = (open_track bank places track).track in
+pub starts : (bank : List ℕ) (places : Places) (track : ℕ) {opened : Track} → open_track bank places track ≡ Ok opened →
+    Starts bank opened
+starts bank places track {opened} e =
     let o = opens bank places track e in
     record { whole = o.four; run = fresh_run bank opened o.four; some = some_stop bank opened o.some }
 
@@ -92,12 +85,12 @@ stays_stopped {bank} {track} s =
     rw (record_fits_lem track.voices stopped_player (omega arith, omega arith) (all_fit bank track (s.run 0 (omega arith)).channels))
 
 module _ (bank : List ℕ) (places : Places) (track : ℕ) (player : Player) where
-  pub opened_frame : (open_track bank places track).number ≡ 0 →
-      frame_of bank places track player ≡ frame_of_track bank (open_track bank places track).track player
+  pub opened_frame : {opened : Track} → open_track bank places track ≡ Ok opened →
+      frame_of bank places track player ≡ frame_of_track bank opened player
   unfolding frame_of
-  opened_frame e = sym (pick_eq _ 0 _ _ _ e refl)
+  opened_frame e = rw e
 
-  pub unopened_frame : ((open_track bank places track).number ≡ 0 → ⊥) →
-      frame_of bank places track player ≡ unplayed (Answer.Refused (open_track bank places track).number) player
+  pub unopened_frame : {refusal : Refusal} → open_track bank places track ≡ Err refusal →
+      frame_of bank places track player ≡ unplayed (Answer.Refused refusal) player
   unfolding frame_of
-  unopened_frame e = sym (pick_ne _ 0 _ _ _ e refl)
+  unopened_frame e = rw e

@@ -28,12 +28,12 @@ abbrev pub StepWithin : ℕ → ℕ → Step → Type 0
 StepWithin start limit (Step.Again cursor) = Within limit cursor
 StepWithin start limit (Step.Note b cursor) = Within limit cursor
 StepWithin start limit Step.End = Unit {0}
-StepWithin start limit (Step.Refused number at address) = FaultAt start limit number at address
+StepWithin start limit (Step.Refused refusal at address) = FaultAt start limit refusal at address
 
 abbrev pub StopWithin : ℕ → ℕ → Stop → Type 0
 StopWithin start limit (Stop.Note b) = Unit {0}
 StopWithin start limit Stop.End = Unit {0}
-StopWithin start limit (Stop.Refused number at address) = FaultAt start limit number at address
+StopWithin start limit (Stop.Refused refusal at address) = FaultAt start limit refusal at address
 
 -- where reading stops, and the cursor that it gives
 pub record UntilWithin (start limit : ℕ) (until : Until) : Type 0 where
@@ -47,7 +47,7 @@ module _ (source : Source) (limit : ℕ) (fits : length source.bytes ≤ limit) 
   by_step (goes_back h e m) p = record { next = p.start; start = p.start }
   by_step (notes b after frames h w l n) p = record { next = omega arith; start = p.start }
   by_step (ends h) p = tt
-  by_step (refuses number at h w) p = (fault_further _ _ _ _ (omega (arith, p.next)) h, refl)
+  by_step (refuses refusal at h w) p = (fault_further _ _ _ _ (omega (arith, p.next)) h, refl)
 
   pub step_within : {cursor : Cursor} {step : Step} → step_of source cursor ≡ step → Within limit cursor → StepWithin source.start limit step
   step_within {cursor} e p = by_step (rw e at (stepped source cursor)) p
@@ -62,7 +62,7 @@ module _ (source : Source) (limit : ℕ) (fits : length source.bytes ≤ limit) 
       from further (Step.Again d) e = further d (count + 1) (step_within e p)
       from further (Step.Note b d) e = record { stop = tt; cursor = step_within e p }
       from further Step.End e = record { stop = tt; cursor = p }
-      from further (Step.Refused number at address) e = record { stop = step_within e p; cursor = p }
+      from further (Step.Refused refusal at address) e = record { stop = step_within e p; cursor = p }
 
   -- reading from a record that passes 16
   pub until_within : (cursor : Cursor) → Within limit cursor → UntilWithin source.start limit (read_until limit source cursor)

@@ -32,13 +32,13 @@ abbrev LoopedBy : ℕ → Step → Type 0
 LoopedBy extra (Step.Again cursor) = Looped extra cursor
 LoopedBy extra (Step.Note b cursor) = Looped extra cursor
 LoopedBy extra Step.End = Unit {0}
-LoopedBy extra (Step.Refused number at address) = Unit {0}
+LoopedBy extra (Step.Refused refusal at address) = Unit {0}
 
 -- what holds where reading stops: a note is one of the channel and longer than 0 frames, and the end counts
 abbrev pub StopHolds : Source → Cursor → ℕ → Stop → Type 0
 StopHolds source cursor count (Stop.Note b) = (0 < cursor.length.count) × (is_note source.kind b ≡ true)
 StopHolds source cursor count Stop.End = 0 < count
-StopHolds source cursor count (Stop.Refused number at address) = Unit {0}
+StopHolds source cursor count (Stop.Refused refusal at address) = Unit {0}
 
 module _ (source : Source) where
   abbrev Holds : Until → Type 0
@@ -57,7 +57,7 @@ module _ (source : Source) where
       from further (Step.Again d) e = further d (count + 1)
       from further (Step.Note b d) e = note_holds (count + 1) (rw e at (stepped source cursor))
       from further Step.End e = omega arith
-      from further (Step.Refused number at address) e = tt
+      from further (Step.Refused refusal at address) e = tt
 
   -- from any cursor whatever
   pub stop_holds : (limit : ℕ) (cursor : Cursor) → Holds (read_until limit source cursor)
@@ -88,7 +88,7 @@ module _ (source : Source) where
     looped_step (goes_back h e m) p = record { byte = omega (arith, p.byte); after_begin = λ _. p.after_begin m }
     looped_step (notes b after frames h w l n) p = record { byte = p.byte; after_begin = p.after_begin }
     looped_step (ends h) p = tt
-    looped_step (refuses number at h w) p = tt
+    looped_step (refuses refusal at h w) p = tt
 
     looped_after : {cursor : Cursor} {step : Step} → step_of source cursor ≡ step → Looped extra cursor → LoopedBy extra step
     looped_after {cursor} e p = looped_step (rw e at (stepped source cursor)) p
@@ -118,7 +118,7 @@ module _ (source : Source) where
       from (Step.Again d) e = again e (further d e)
       from (Step.Note b d) e = note e
       from Step.End e = end e
-      from (Step.Refused number at address) e = refused e
+      from (Step.Refused refusal at address) e = refused e
 
   -- fuel above what is left to read is never used up: reading goes command by command to its stop
   reads_from : (fuel : ℕ) (cursor : Cursor) (count : ℕ) {p : ℕ} → PhaseOf cursor p → p < fuel →

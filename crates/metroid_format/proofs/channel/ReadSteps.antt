@@ -2,8 +2,10 @@
 use Prim.Native.Nat.{ℕ, ◌+◌, ◌-◌, ◌<◌}
 use mathlib.Core.List.{List}
 use mathlib.Core.Path.{◌≡◌, refl, ◌∙◌}
+use native.Mathlib.Omega.{arith}
 use lib.ListN.{take}
-use Rattle.engine_base.specs.Refusal.{past_data}
+use Rattle.engine_base.specs.declared.refusal.Refusal.{Refusal}
+use Rattle.engine_base.specs.declared.refusal.Refusal.TheVariants.{PastData}
 use Rattle.engine_base.specs.Told.{Answers}
 use Rattle.metroid_format.specs.Command.{data_limit}
 use Rattle.metroid_format.specs.Channel.{Source, source_of, address_at, step_of, read_by, read_from, read_until, told_until}
@@ -30,10 +32,12 @@ read_turn source cursor count =
     count
 
 pub read_none : (source : Source) (cursor : Cursor) (count fuel : ℕ) (whole : Until) →
-    fuel ≡ 0 → read_from source fuel cursor count ≡ whole →
-    record { stop = Stop.Refused past_data cursor.next (address_at source.start cursor.next); count = count; cursor = cursor } ≡ whole
+    count ≡ fuel → read_from source (fuel - count) cursor count ≡ whole →
+    record { stop = Stop.Refused PastData cursor.next (address_at source.start cursor.next); count = fuel; cursor = cursor } ≡ whole
 unfolding read_from
-read_none source cursor count fuel whole e w = rw e at w
+read_none source cursor count fuel whole e w =
+    let none : fuel - fuel ≡ 0 = omega arith in
+    rw (e, none) at w
 
 -- the data is what `part` gives
 pub read_cut : (kind : Kind) (bytes part lengths : List ℕ) (window address : ℕ) (start : Cursor) (until : Until) → part ≡ take data_limit bytes →
@@ -49,5 +53,5 @@ pub data ByCommand (source : Source) : Cursor → ℕ → Until → Type 0 where
       ByCommand source cursor count (record { stop = Stop.Note b; count = count + 1; cursor = after })
   end : {cursor : Cursor} {count : ℕ} → step_of source cursor ≡ Step.End →
       ByCommand source cursor count (record { stop = Stop.End; count = count + 1; cursor = cursor })
-  refused : {cursor : Cursor} {count number at address : ℕ} → step_of source cursor ≡ Step.Refused number at address →
-      ByCommand source cursor count (record { stop = Stop.Refused number at address; count = count; cursor = cursor })
+  refused : {cursor : Cursor} {count : ℕ} {refusal : Refusal} {at address : ℕ} → step_of source cursor ≡ Step.Refused refusal at address →
+      ByCommand source cursor count (record { stop = Stop.Refused refusal at address; count = count; cursor = cursor })

@@ -1,25 +1,25 @@
 -- What stands where a command is found, and the other way round.
 use Prim.Native.Nat.{ℕ, suc, ◌+◌, ◌-◌, ◌*◌, ◌/◌, ◌%◌, ◌≤◌, ◌<◌, max}
-use mathlib.Core.Bool.{true, false}
+use mathlib.Core.Bool.{true}
 use mathlib.Core.List.{List}
-use mathlib.Core.Path.{◌≡◌, refl, sym, subst, ◌∙◌}
+use mathlib.Core.Path.{◌≡◌, refl, sym, ap, subst, ◌∙◌}
 use native.Mathlib.Nat.{add-zero}
 use native.Mathlib.Numerals.{add-one}
 use native.Mathlib.Omega.{arith}
 use borrow.Author.Tests.{eqb-true, eqb-false, leb-true, leb-false, lt-leb}
 use lib.Dec.{leb, eqb}
-use lib.ListN.{length, get_or, take, drop, get_or-eq_default}
+use lib.ListN.{length, get_or, take, drop}
 use lib.Seq.{drop-cons}
+use Rattle.std.specs.Prelude.{Ok, Err}
 use Rattle.engine_base.specs.Bytes.{word_at}
-use Rattle.engine_base.specs.Pick.{pick}
-use Rattle.engine_base.specs.Refusal.{past_data, invalid_command, invalid_note, FaultWithin}
-use Rattle.metroid_format.specs.Command.{command_at, command_of, note_after, is_key, is_preset, is_note, word_of}
+use Rattle.engine_base.specs.Refusal.{number_of, FaultWithin}
+use Rattle.engine_base.specs.declared.refusal.Refusal.{Refusal}
+use Rattle.engine_base.specs.declared.refusal.Refusal.TheVariants.{PastData, InvalidCommand, InvalidNote}
+use Rattle.metroid_format.specs.Command.{command_at, command_of, note_after, is_key, is_preset, is_note, word_of, Decoded}
 use Rattle.metroid_format.specs.declared.command.Kind.{Kind}
 use Rattle.metroid_format.specs.declared.command.Kind.TheVariants.{Melodic, Noise}
 use Rattle.metroid_format.specs.declared.command.Command.{Command}
 use Rattle.metroid_format.specs.declared.command.Command.TheVariants.{End, EndLoop, BeginLoop, Length, Note}
-use Rattle.metroid_format.specs.declared.command.Decoded.{Decoded}
-use Rattle.metroid_format.specs.declared.command.Decoded.TheVariants.{Found, Refused}
 use Rattle.engine_base.proofs.Picks.{by-test, false_true, picks}
 
 -- a command that stands at an offset, with the offset after it
@@ -30,28 +30,28 @@ pub data Stands (kind : Kind) (bytes : List ℕ) (at : ℕ) : Command → ℕ �
   at_length : (l note : ℕ) → l < 16 → is_note kind note ≡ true → at + 1 < length bytes → get_or bytes at 0 ≡ 0xb0 + l → get_or bytes (at + 1) 0 ≡ note → Stands kind bytes at (Length l note) (at + 1 + 1)
   at_note : (b : ℕ) → 0 < b → b < 0x80 → is_note kind b ≡ true → at < length bytes → get_or bytes at 0 ≡ b → Stands kind bytes at (Note b) (at + 1)
 
-pub fault_further : (limit more number at : ℕ) → limit ≤ more → FaultWithin limit number at → FaultWithin more number at
-fault_further limit more number at h (low, high, w) = (low, high, omega arith)
+pub fault_further : (limit more : ℕ) (refusal : Refusal) (at : ℕ) → limit ≤ more → FaultWithin limit refusal at → FaultWithin more refusal at
+fault_further limit more refusal at h (low, high, w) = (low, high, omega arith)
 
 -- 15 wants a byte behind the data
-abbrev pub Wants : List ℕ → ℕ → ℕ → Type 0
-Wants bytes number at = number ≡ past_data → length bytes ≤ at
+abbrev pub Wants : List ℕ → Refusal → ℕ → Type 0
+Wants bytes refusal at = refusal ≡ PastData → length bytes ≤ at
 
 -- what is refused where a command stands: a byte past the data, the command's own, or the one behind BL
-pub data Unfit (bytes : List ℕ) (at : ℕ) : ℕ → ℕ → Type 0 where
-  past : (offset : ℕ) → length bytes ≤ offset → offset ≤ max at (length bytes) → offset ≤ at + 1 → Unfit bytes at past_data offset
-  lone : (number : ℕ) → invalid_command ≤ number → number < past_data → at < length bytes → Unfit bytes at number at
-  behind : (l : ℕ) → l < 16 → at + 1 < length bytes → get_or bytes at 0 ≡ 0xb0 + l → Unfit bytes at invalid_note (at + 1)
+pub data Unfit (bytes : List ℕ) (at : ℕ) : Refusal → ℕ → Type 0 where
+  past : (offset : ℕ) → length bytes ≤ offset → offset ≤ max at (length bytes) → offset ≤ at + 1 → Unfit bytes at PastData offset
+  lone : (refusal : Refusal) → number_of InvalidCommand ≤ number_of refusal → number_of refusal < number_of PastData → at < length bytes → Unfit bytes at refusal at
+  behind : (l : ℕ) → l < 16 → at + 1 < length bytes → get_or bytes at 0 ≡ 0xb0 + l → Unfit bytes at InvalidNote (at + 1)
 
 abbrev Right : Kind → List ℕ → ℕ → Decoded → Type 0
-Right kind bytes at (Found c next) = Stands kind bytes at c next
-Right kind bytes at (Refused number offset) = Unfit bytes at number offset
+Right kind bytes at (Ok (c, next)) = Stands kind bytes at c next
+Right kind bytes at (Err (refusal, offset)) = Unfit bytes at refusal offset
 
 -- it is at the offset, or at one in the data or at its end
-near : {bytes : List ℕ} {at number offset : ℕ} → Unfit bytes at number offset → FaultWithin (max at (length bytes)) number offset × Wants bytes number offset
+near : {bytes : List ℕ} {at : ℕ} {refusal : Refusal} {offset : ℕ} → Unfit bytes at refusal offset → FaultWithin (max at (length bytes)) refusal offset × Wants bytes refusal offset
 near (past offset h m i) = ((omega arith, omega arith, m), λ _. h)
-near (lone number low high h) = ((low, omega arith, omega arith), λ z. absurd (omega arith))
-near (behind l s h e) = ((omega arith, omega arith, omega arith), λ z. absurd (omega arith))
+near (lone refusal low high h) = ((low, omega arith, omega arith), λ z. absurd (omega (arith, ap number_of z)))
+near (behind l s h e) = ((omega arith, omega arith, omega arith), λ z. absurd (omega (arith, ap number_of z)))
 
 pub note_small : (kind : Kind) (b : ℕ) → is_note kind b ≡ true → b < 0x80
 unfolding is_key is_preset
@@ -62,10 +62,6 @@ note_small Noise b y =
     (λ _. by-test (λ x. x ≡ true → b < 0x80) (eqb b 0x04) (λ e _. omega (arith, eqb-true b 0x04 e))
     (λ _. by-test (λ x. x ≡ true → b < 0x80) (eqb b 0x07) (λ e _. omega (arith, eqb-true b 0x07 e))
     (λ _ z. omega (arith, eqb-true b 0x0a z)))) y
-
--- past the data stands no BL
-pub past_length : (bytes : List ℕ) (at : ℕ) → length bytes ≤ at → get_or bytes at 0 / 16 ≡ 0x0b → ⊥
-past_length bytes at h e = omega (arith, get_or-eq_default bytes 0 h)
 
 pub next_after : {kind : Kind} {bytes : List ℕ} {at : ℕ} {c : Command} {next : ℕ} → Stands kind bytes at c next → at < next
 next_after (at_end h e) = omega arith
@@ -103,53 +99,6 @@ word_there (at_begin n s h e) = one_byte _ _ h ∙ e
 word_there (at_length l note s y h e g) = two_bytes _ _ h ∙ rw (e, g)
 word_there (at_note b p s y h e) = one_byte _ _ h ∙ e
 
--- what `note_fault` answers: of no byte, of a key or preset, of any other
-abbrev pub note_fault : Kind → List ℕ → ℕ → ℕ
-note_fault kind bytes at = pick (leb (length bytes) at) past_data (pick (is_note kind (get_or bytes at 0)) 0 invalid_note)
-
-data Noted (kind : Kind) (bytes : List ℕ) (at : ℕ) : ℕ → Type 0 where
-  missing : length bytes ≤ at → Noted kind bytes at past_data
-  named : at < length bytes → is_note kind (get_or bytes at 0) ≡ true → Noted kind bytes at 0
-  unnamed : at < length bytes → is_note kind (get_or bytes at 0) ≡ false → Noted kind bytes at invalid_note
-
-noted : (kind : Kind) (bytes : List ℕ) (at r : ℕ) → r ≡ note_fault kind bytes at → Noted kind bytes at r
-noted kind bytes at r q =
-    subst (Noted kind bytes at) (sym q)
-    (by-test (Noted kind bytes at) (leb (length bytes) at) (λ n. missing (leb-true _ _ n))
-    (λ n. by-test (Noted kind bytes at) (is_note kind (get_or bytes at 0)) (λ y. named (leb-false _ _ n) y) (λ y. unnamed (leb-false _ _ n) y)))
-
-module _ (kind : Kind) (bytes : List ℕ) (at r : ℕ) (q : r ≡ note_fault kind bytes at) where
-  pub note_refused : (r ≡ 0 → ⊥) → (l : ℕ) → Refused r at ≡ note_after kind bytes at l
-  unfolding note_after
-  note_refused z l = go r (noted kind bytes at r q) z
-    where
-      go : (n : ℕ) → Noted kind bytes at n → (n ≡ 0 → ⊥) → Refused n at ≡ note_after kind bytes at l
-      go _ (missing h) z = search picks depth 8
-      go _ (named h y) z = absurd (z refl)
-      go _ (unnamed h y) z = search picks depth 8
-
-  -- where a byte stands
-  pub note_unnamed : at < length bytes → (r ≡ 0 → ⊥) → (r ≡ invalid_note) × (is_note kind (get_or bytes at 0) ≡ false)
-  note_unnamed h z = go r (noted kind bytes at r q) z
-    where
-      go : (n : ℕ) → Noted kind bytes at n → (n ≡ 0 → ⊥) → (n ≡ invalid_note) × (is_note kind (get_or bytes at 0) ≡ false)
-      go _ (missing i) z = absurd (omega arith)
-      go _ (named i y) z = absurd (z refl)
-      go _ (unnamed i y) z = (refl, y)
-
-  module _ (z : r ≡ 0) where
-    named_by : (n : ℕ) → Noted kind bytes at n → n ≡ 0 → (at < length bytes) × (is_note kind (get_or bytes at 0) ≡ true)
-    named_by _ (missing h) e = absurd (omega arith)
-    named_by _ (named h y) e = (h, y)
-    named_by _ (unnamed h y) e = absurd (omega arith)
-
-    pub note_there : (at < length bytes) × (is_note kind (get_or bytes at 0) ≡ true)
-    note_there = named_by r (noted kind bytes at r q) z
-
-    pub note_found : (l : ℕ) → Found (Length l (get_or bytes at 0)) (at + 1) ≡ note_after kind bytes at l
-    unfolding note_after
-    note_found l = let (h, y) = note_there in search picks depth 8
-
 module _ (kind : Kind) (bytes : List ℕ) (at : ℕ) where
   after_right : at < length bytes → get_or bytes at 0 / 16 ≡ 0x0b → Right kind bytes at (note_after kind bytes (at + 1) (get_or bytes at 0 % 16))
   unfolding note_after
@@ -171,22 +120,22 @@ module _ (kind : Kind) (bytes : List ℕ) (at : ℕ) where
       by-test (Right kind bytes at) (eqb (get_or bytes at 0 / 64) 3)
       (λ e. let q = eqb-true (get_or bytes at 0 / 64) 3 e in at_begin (get_or bytes at 0 % 64) (omega arith) h (omega arith))
       (λ e2. by-test (Right kind bytes at) (eqb (get_or bytes at 0 / 16) 0x0b) (λ e. after_right h (eqb-true _ _ e))
-      (λ e3. by-test (Right kind bytes at) (leb 0x80 (get_or bytes at 0)) (λ _. lone invalid_command (omega arith) (omega arith) h)
+      (λ e3. by-test (Right kind bytes at) (leb 0x80 (get_or bytes at 0)) (λ _. lone InvalidCommand (omega arith) (omega arith) h)
       (λ e4. let s = leb-false 0x80 (get_or bytes at 0) e4 in
       by-test (Right kind bytes at) (is_note kind (get_or bytes at 0))
       (λ y. at_note (get_or bytes at 0) (omega arith) s y h refl)
-      (λ _. lone invalid_note (omega arith) (omega arith) h)))))))
+      (λ _. lone InvalidNote (omega arith) (omega arith) h)))))))
 
-  pub found : {c : Command} {next : ℕ} → command_at kind bytes at ≡ Found c next → Stands kind bytes at c next
+  pub found : {c : Command} {next : ℕ} → command_at kind bytes at ≡ Ok (c, next) → Stands kind bytes at c next
   found e = subst (Right kind bytes at) e command_right
 
-  pub within : {c : Command} {next : ℕ} → Found c next ≡ command_at kind bytes at → next ≤ length bytes
-  within e = next_within (found (sym e))
+  pub within : {c : Command} {next : ℕ} → command_at kind bytes at ≡ Ok (c, next) → next ≤ length bytes
+  within e = next_within (found e)
 
-  pub unfit : {number offset : ℕ} → command_at kind bytes at ≡ Refused number offset → Unfit bytes at number offset
+  pub unfit : {refusal : Refusal} {offset : ℕ} → command_at kind bytes at ≡ Err (refusal, offset) → Unfit bytes at refusal offset
   unfit e = subst (Right kind bytes at) e command_right
 
-  pub refused_near : {number offset : ℕ} → command_at kind bytes at ≡ Refused number offset → FaultWithin (max at (length bytes)) number offset × Wants bytes number offset
+  pub refused_near : {refusal : Refusal} {offset : ℕ} → command_at kind bytes at ≡ Err (refusal, offset) → FaultWithin (max at (length bytes)) refusal offset × Wants bytes refusal offset
   refused_near e = near (unfit e)
 
   -- BL, and its next byte
@@ -200,7 +149,7 @@ module _ (kind : Kind) (bytes : List ℕ) (at : ℕ) where
       let r : get_or bytes at 0 % 16 ≡ l = omega arith in
       rw (← r) (search picks depth 12)
 
-  pub stands : {c : Command} {next : ℕ} → Stands kind bytes at c next → command_at kind bytes at ≡ Found c next
+  pub stands : {c : Command} {next : ℕ} → Stands kind bytes at c next → command_at kind bytes at ≡ Ok (c, next)
   unfolding command_at command_of note_after
   stands (at_end h e) = simp (lt-leb _ _ h, e)
   stands (at_end_loop h e) = simp (lt-leb _ _ h, e)
@@ -224,7 +173,7 @@ module _ (kind : Kind) (bytes : List ℕ) (at : ℕ) where
       sym (rw (← e) (search picks depth 12))
 
   -- r is what `command_at` answers
-  module _ (r : Decoded) (q : r ≡ command_at kind bytes at) (c : Command) (next : ℕ) (e : r ≡ Found c next) where
+  module _ (r : Decoded) (q : r ≡ command_at kind bytes at) (c : Command) (next : ℕ) (e : r ≡ Ok (c, next)) where
     standing : Stands kind bytes at c next
     standing = found (sym q ∙ e)
 

@@ -9,18 +9,16 @@ use borrow.Author.Tests.{eq-eqb, ne_eqb, leb-true, le-leb, lt-leb}
 use mir.Syntax.{w64}
 use mir.Val.{Fits}
 use lib.Dec.{leb, eqb}
-use lib.ListN.{length, take, drop, length-drop, length-append, drop_of_length-le}
-use lib.Seq.{sets, sets-eq, length-sets, take_at, take_all, take-length, take-append_seam, length-take-le}
+use lib.ListN.{length, take, drop, drop_of_length-le}
+use lib.Seq.{sets, sets-eq, take_at, take_all, take-length, take-append_seam}
+use Rattle.std.specs.Prelude.{Ok, Err}
 use Rattle.engine_base.specs.Pick.{pick}
+use Rattle.engine_base.specs.declared.refusal.Refusal.TheVariants.{NoRoom, WrongDataSize}
 use Rattle.metroid_format.specs.Command.{data_limit}
 use Rattle.metroid_format.specs.Words.{left_by, straight, read_words, ReadWithin}
-use Rattle.metroid_format.specs.Mend.{mended_from, mended, changes, changes_of, change_words, mending, told_mending, data_left, list_left, Saves, Mends, Lists, Changed, MendedWithin}
+use Rattle.metroid_format.specs.Mend.{mended_from, mended, changes, changes_of, change_words, mending, told_mending, data_left, list_left, Saves, Mends, Lists, Changed, is_18, is_23, MendedWithin, Mending}
 use Rattle.metroid_format.specs.declared.command.Kind.{Kind}
-use Rattle.metroid_format.specs.declared.command.Finish.TheVariants.{End as Ended}
-use Rattle.metroid_format.specs.declared.words.Reading.TheVariants.{Wrote}
-use Rattle.metroid_format.specs.declared.mend.Mending.{Mending}
-use Rattle.metroid_format.specs.declared.mend.Mending.TheVariants.{Mended, WrongSize, NoRoom}
-use Rattle.engine_base.proofs.Picks.{answers, by-test}
+use Rattle.engine_base.proofs.Picks.{answers, by-test, refused_given}
 use Rattle.engine_base.proofs.Buffers.{sets_out}
 use Rattle.metroid_format.proofs.words.RoundTrip.{reading_ended}
 use Rattle.metroid_format.proofs.words.Owed.{filled_whole}
@@ -50,19 +48,10 @@ saves kind bytes h =
       behind = m.rest (length after) n;
     }
 
-pub front_size : (n : ℕ) (l : List ℕ) → n ≤ length l → n ≡ length (take n l)
-front_size n l h = sym (length-take-le n l h)
-
 -- data copied to the start of an array
 module _ (kind : Kind) (bytes array copied : List ℕ) (room : length bytes ≤ length array) (e : copied ≡ sets array 0 bytes) where
   copied_there : take (length bytes) copied ≡ bytes
   copied_there = rw (e, sets-eq bytes array 0 (omega arith)) (take-append_seam bytes _)
-
-  pub copy_size : length bytes ≡ length (take (length bytes) copied)
-  copy_size = ap length (sym copied_there)
-
-  pub copy_fits : length bytes ≤ length copied
-  copy_fits = rw (e, length-sets array 0 bytes) room
 
   module _ (m : List ℕ) (f : m ≡ mended kind (take (length bytes) copied)) where
     is_mended : m ≡ mended kind bytes
@@ -73,9 +62,6 @@ module _ (kind : Kind) (bytes array copied : List ℕ) (room : length bytes ≤ 
 
     pub copy_mended : take (length bytes) (m ++ drop (length bytes) copied) ≡ mended kind bytes
     copy_mended = take_at m (drop (length bytes) copied) (length bytes) same_size ∙ is_mended
-
-    pub array_size : length (m ++ drop (length bytes) copied) ≡ length array
-    array_size = simp (length-append, length-drop, same_size, e, length-sets) (omega arith)
 
 -- the changes of data to others of its size, as they are counted
 module _ (bytes new : List ℕ) (z : (length bytes ≤ data_limit) × (length new ≡ length bytes)) (scratch used : List ℕ) (count : ℕ) (d : Lists 0 (changes bytes new) scratch count used) where
@@ -93,12 +79,12 @@ module _ (bytes new list : List ℕ) (z : (length bytes ≤ data_limit) × (leng
   still : none ++ drop 0 list ≡ list
   still = ap (λ (x : List ℕ). x ++ drop 0 list) (d.filled ∙ sym (sets_out [] 0 (change_words (changes bytes new)) (omega arith)))
 
-  pub changed_none : length list < count * 3 → Changed bytes new list NoRoom bytes (none ++ drop 0 list)
+  pub changed_none : length list < count * 3 → Changed bytes new list (Err NoRoom) bytes (none ++ drop 0 list)
   changed_none s =
       let e = lt-leb _ _ (rw (words_are bytes new z (take 0 list) none count d) at s) in
       record { answered = sym (simp e); becomes = sym (simp e); listed = still ∙ sym (simp e) }
 
-  pub changed_all : count * 3 ≤ length list → (list' bytes' : List ℕ) (count' : ℕ) → Lists 0 (changes bytes new) (none ++ drop 0 list) count' list' → bytes' ≡ sets bytes 0 new → Changed bytes new list (Mended count) bytes' list'
+  pub changed_all : count * 3 ≤ length list → (list' bytes' : List ℕ) (count' : ℕ) → Lists 0 (changes bytes new) (none ++ drop 0 list) count' list' → bytes' ≡ sets bytes 0 new → Changed bytes new list (Ok count) bytes' list'
   changed_all s list' bytes' count' t q =
       let cs = changes bytes new in
       let room : length (change_words cs) ≤ length list = rw (words_are bytes new z (take 0 list) none count d) at s in
@@ -109,7 +95,7 @@ module _ (bytes new list : List ℕ) (z : (length bytes ≤ data_limit) × (leng
       ∙ append-nil new
       in
       record {
-        answered = ap Mended (counted bytes new z (take 0 list) none count d) ∙ sym (simp e);
+        answered = ap Ok (counted bytes new z (take 0 list) none count d) ∙ sym (simp e);
         becomes = whole ∙ sym (simp e);
         listed = filled_whole (change_words cs) list list' room (t.filled ∙ rw still) ∙ sym (simp e);
       }
@@ -125,35 +111,35 @@ module _ (kind : Kind) (bytes copy : List ℕ) (f : take (length bytes) copy ≡
 module _ (limit : ℕ) (kind : Kind) (bytes list : List ℕ) where
   mends_by : (x : Mending) (bytes' list' : List ℕ) → mending limit kind bytes (length list) ≡ x
       → bytes' ≡ pick (eqb (told_mending x).number 0) (mended kind bytes) bytes → list' ≡ left_by (told_mending x) (change_words (changes_of kind bytes)) list
-      → ((count : ℕ) → x ≡ Mended count → Saves kind bytes bytes' (changes_of kind bytes)) → Mends limit kind bytes list x bytes' list'
+      → ((count : ℕ) → x ≡ Ok count → Saves kind bytes bytes' (changes_of kind bytes)) → Mends limit kind bytes list x bytes' list'
   unfolding data_left list_left
   mends_by x bytes' list' e f g s =
       record { answered = answers told_mending x _ (sym e); mends = rw e f; lists = rw e g; saves = s }
 
-  pub mends_empty : length bytes ≡ 0 → Mends limit kind bytes list WrongSize bytes list
+  pub mends_empty : length bytes ≡ 0 → Mends limit kind bytes list (Err WrongDataSize) bytes list
   unfolding mending
   mends_empty z =
-      mends_by WrongSize bytes list (simp (eq-eqb _ _ z)) refl refl (λ count e. let k : ◌≡◌ {A = ℕ} 0 1 = cc in absurd (omega arith))
+      mends_by (Err WrongDataSize) bytes list (simp (eq-eqb _ _ z)) refl refl (λ count e. absurd (refused_given _ count e))
 
   module _ (z : length bytes ≡ 0 → ⊥) where
-    pub mends_long : limit < length bytes → Mends limit kind bytes list WrongSize bytes list
+    pub mends_long : limit < length bytes → Mends limit kind bytes list (Err WrongDataSize) bytes list
     unfolding mending
     mends_long l =
-        mends_by WrongSize bytes list (simp (ne_eqb _ _ z, lt-leb _ _ l)) refl refl (λ count e. let k : ◌≡◌ {A = ℕ} 0 1 = cc in absurd (omega arith))
+        mends_by (Err WrongDataSize) bytes list (simp (ne_eqb _ _ z, lt-leb _ _ l)) refl refl (λ count e. absurd (refused_given _ count e))
 
     -- new is the mended data, from the start of a copy, and the data becomes it
     module _ (l : length bytes ≤ limit) (copy : List ℕ) (f : take (length bytes) copy ≡ mended kind bytes) (new : List ℕ) (g : new ≡ take (length bytes) (drop 0 copy)) where
       by_room : (b : Bool) → leb (length (change_words (changes_of kind bytes))) (length list) ≡ b → (answer : Mending) (bytes' list' : List ℕ) → Changed bytes (mended kind bytes) list answer bytes' list' → Mends limit kind bytes list answer bytes' list'
       unfolding mending
       by_room true e answer bytes' list' c =
-          let a : answer ≡ Mended (length (changes_of kind bytes)) = c.answered ∙ simp e in
+          let a : answer ≡ Ok (length (changes_of kind bytes)) = c.answered ∙ simp e in
           let w : bytes' ≡ mended kind bytes = c.becomes ∙ simp e in
           rw a
-          (mends_by (Mended (length (changes_of kind bytes))) bytes' list' (simp (ne_eqb _ _ z, le-leb _ _ l, e)) w (c.listed ∙ simp e) (λ n _. rw w (saves kind bytes (omega arith))))
+          (mends_by (Ok (length (changes_of kind bytes))) bytes' list' (simp (ne_eqb _ _ z, le-leb _ _ l, e)) w (c.listed ∙ simp e) (λ n _. rw w (saves kind bytes (omega arith))))
       by_room false e answer bytes' list' c =
-          let a : answer ≡ NoRoom = c.answered ∙ simp e in
+          let a : answer ≡ Err NoRoom = c.answered ∙ simp e in
           rw a
-          (mends_by NoRoom bytes' list' (simp (ne_eqb _ _ z, le-leb _ _ l, e)) (c.becomes ∙ simp e) (c.listed ∙ simp e) (λ n q. let k : ◌≡◌ {A = ℕ} 0 1 = cc in absurd (omega arith)))
+          (mends_by (Err NoRoom) bytes' list' (simp (ne_eqb _ _ z, le-leb _ _ l, e)) (c.becomes ∙ simp e) (c.listed ∙ simp e) (λ n q. absurd (refused_given _ n q)))
 
       pub mends_changed : (answer : Mending) (bytes' list' : List ℕ) → Changed bytes new list answer bytes' list' → Mends limit kind bytes list answer bytes' list'
       mends_changed answer bytes' list' c =
@@ -162,21 +148,21 @@ module _ (limit : ℕ) (kind : Kind) (bytes list : List ℕ) where
 pub mended_within : (limit : ℕ) (kind : Kind) (bytes : List ℕ) (room : ℕ) → MendedWithin limit (mending limit kind bytes room)
 unfolding mending
 mended_within limit kind bytes room =
-    by-test (MendedWithin limit) (eqb (length bytes) 0) (λ _. tt)
+    by-test (MendedWithin limit) (eqb (length bytes) 0) (λ _. is_23)
     (λ _. by-test (MendedWithin limit) (leb (length bytes) limit)
-    (λ l. by-test (MendedWithin limit) (leb (length (change_words (changes_of kind bytes))) room) (λ _. omega (arith, leb-true (length bytes) limit l, few_changes 0 bytes (mended kind bytes))) (λ _. tt))
-    (λ _. tt))
+    (λ l. by-test (MendedWithin limit) (leb (length (change_words (changes_of kind bytes))) room) (λ _. omega (arith, leb-true (length bytes) limit l, few_changes 0 bytes (mended kind bytes))) (λ _. is_18))
+    (λ _. is_23))
 
 -- as the calls on words tell it: the mended data reads, given as many words as bytes, and data that reads stays as it is
 module _ (limit : ℕ) (kind : Kind) (bytes : List ℕ) (h : 0 < length bytes) (l : length bytes ≤ limit) where
-  few_words : (other : List ℕ) → (straight kind other).finish ≡ Ended → length (straight kind other).words ≤ length other
+  few_words : (other : List ℕ) → (straight kind other).finish ≡ Ok tt → length (straight kind other).words ≤ length other
   unfolding read_words
   few_words other e =
       let n = length (straight kind other).words in
-      let r : read_words (length other) kind other n ≡ Wrote n = rw (take-length other, e) (simp (le-leb n n (omega arith))) in
+      let r : read_words (length other) kind other n ≡ Ok n = rw (take-length other, e) (simp (le-leb n n (omega arith))) in
       subst (ReadWithin (length other)) r (read_within (length other) kind other n)
 
-  pub mended_reads : (room : ℕ) → length bytes ≤ room → read_words limit kind (mended kind bytes) room ≡ Wrote (length (straight kind (mended kind bytes)).words)
+  pub mended_reads : (room : ℕ) → length bytes ≤ room → read_words limit kind (mended kind bytes) room ≡ Ok (length (straight kind (mended kind bytes)).words)
   unfolding read_words
   mended_reads room r =
       let after = mended kind bytes in
@@ -185,5 +171,5 @@ module _ (limit : ℕ) (kind : Kind) (bytes : List ℕ) (h : 0 < length bytes) (
       let fits : n ≤ room = omega (arith, few_words after e, length_mended kind bytes) in
       rw (take_all limit after (omega (arith, length_mended kind bytes)), e) (simp (le-leb n room fits))
 
-  pub read_kept : (room count : ℕ) → read_words limit kind bytes room ≡ Wrote count → mended kind bytes ≡ bytes
+  pub read_kept : (room count : ℕ) → read_words limit kind bytes room ≡ Ok count → mended kind bytes ≡ bytes
   read_kept room count e = ((saves kind bytes h).kept (rw (take_all limit bytes l) at (reading_ended limit kind bytes room count e).0)).0

@@ -8,18 +8,18 @@ use borrow.Author.Tests.{eqb-true, eqb-false, leb-true, leb-false, le-leb}
 use lib.Dec.{leb, eqb}
 use lib.ListN.{length, get_or, set, take, drop, length-set, drop_of_length-le}
 use lib.Seq.{take-take, take-set-le, drop-set-lt, drop-drop, get_or-take, get_or-set_same, get_or-set_other}
+use Rattle.std.specs.Prelude.{Ok, Err}
 use Rattle.engine_base.specs.Pick.{pick}
-use Rattle.engine_base.specs.Refusal.{past_data}
-use Rattle.metroid_format.specs.Command.{command_at, is_key, is_preset, is_note, word_of, is_end}
+use Rattle.engine_base.specs.Refusal.{number_of}
+use Rattle.engine_base.specs.declared.refusal.Refusal.{Refusal}
+use Rattle.engine_base.specs.declared.refusal.Refusal.TheVariants.{PastData}
+use Rattle.metroid_format.specs.Command.{command_at, is_key, is_preset, is_note, word_of, is_end, Decoded}
 use Rattle.metroid_format.specs.Words.{Straight, straight_from, straight_by, after_command}
 use Rattle.metroid_format.specs.Mend.{rest_of, closed, onward, mended_by, mended_from}
 use Rattle.metroid_format.specs.declared.command.Kind.{Kind}
 use Rattle.metroid_format.specs.declared.command.Kind.TheVariants.{Melodic, Noise}
 use Rattle.metroid_format.specs.declared.command.Command.{Command}
 use Rattle.metroid_format.specs.declared.command.Command.TheVariants.{End, Note, Length}
-use Rattle.metroid_format.specs.declared.command.Decoded.{Decoded}
-use Rattle.metroid_format.specs.declared.command.Decoded.TheVariants.{Found, Refused}
-use Rattle.metroid_format.specs.declared.command.Finish.TheVariants.{End as Ended}
 use Rattle.engine_base.proofs.Picks.{by-test}
 use Rattle.metroid_format.proofs.command.Laws.{Stands, at_end, at_end_loop, at_begin, at_length, at_note, Unfit, past, lone, behind, found, unfit, stands, next_after, next_within}
 use Rattle.metroid_format.proofs.words.Laws.{straight_next}
@@ -60,9 +60,9 @@ record Passed (kind : Kind) (bytes : List ℕ) (at next : ℕ) : Type 0 where
   stands_there : Stands kind bytes at command next
   no_end : is_end command ≡ false
 
-passed_by_lem : (kind : Kind) (bytes : List ℕ) (at : ℕ) {number offset : ℕ} → Unfit bytes at number offset → (number ≡ past_data → ⊥) → Passed kind (set bytes offset (rest_of kind)) at (offset + 1)
+passed_by_lem : (kind : Kind) (bytes : List ℕ) (at : ℕ) {refusal : Refusal} {offset : ℕ} → Unfit bytes at refusal offset → (number_of refusal ≡ number_of PastData → ⊥) → Passed kind (set bytes offset (rest_of kind)) at (offset + 1)
 passed_by_lem kind bytes at (past offset h m i) z = absurd (z refl)
-passed_by_lem kind bytes at (lone number low high h) z =
+passed_by_lem kind bytes at (lone refusal low high h) z =
     let i : at < length (set bytes at (rest_of kind)) = omega (arith, length-set bytes at (rest_of kind)) in
     record {
       command = Note (rest_of kind);
@@ -87,7 +87,7 @@ record Between (at next : ℕ) (bytes now : List ℕ) : Type 0 where
 pub record Reading (kind : Kind) (at : ℕ) (bytes after : List ℕ) : Type 0 where
   pub size : length after ≡ length bytes
   pub before : take at after ≡ take at bytes
-  pub reads : (left : ℕ) → length bytes ≤ left + at → (straight_from kind after left at).finish ≡ Ended
+  pub reads : (left : ℕ) → length bytes ≤ left + at → (straight_from kind after left at).finish ≡ Ok tt
   pub later : (left : ℕ) → length bytes ≤ left + at → at ≤ (straight_from kind after left at).reach
   pub rest : (left : ℕ) → length bytes ≤ left + at → drop (straight_from kind after left at).reach after ≡ drop (straight_from kind after left at).reach bytes
 
@@ -110,7 +110,7 @@ module _ (kind : Kind) (at next : ℕ) (bytes now after : List ℕ) (b : Between
       let o = one_left left at (length bytes) (omega (arith, b.size)) n in
       let c = p.command in
       let r : straight_from kind after left at ≡ after_command false (word_of c) next (straight_from kind after (left - 1) next) =
-      straight_next kind after left (left - 1) at (Found c next) o (stands kind after at t)
+      straight_next kind after left (left - 1) at (Ok (c, next)) o (stands kind after at t)
       ∙ ap (λ (x : Bool). after_command x (word_of c) next (straight_from kind after (left - 1) next)) p.no_end
       in
       (left - 1, omega (arith, b.size), ap (λ (x : Straight). x.finish) r, ap (λ (x : Straight). x.reach) r)
@@ -128,11 +128,11 @@ module _ (kind : Kind) (at next : ℕ) (bytes now after : List ℕ) (b : Between
 
 -- an end stands there
 module _ (kind : Kind) (at : ℕ) (bytes : List ℕ) (c : Command) (next : ℕ) (s : Stands kind bytes at c next) (y : is_end c ≡ true) where
-  end_there : (left : ℕ) → length bytes ≤ left + at → straight_from kind bytes left at ≡ record { words = word_of c ∷ []; reach = next; finish = Ended }
+  end_there : (left : ℕ) → length bytes ≤ left + at → straight_from kind bytes left at ≡ record { words = word_of c ∷ []; reach = next; finish = Ok tt }
   end_there left n =
       let i = next_after s in
       let w = next_within s in
-      straight_next kind bytes left (left - 1) at (Found c next) (one_left left at (length bytes) (omega arith) n) (stands kind bytes at s)
+      straight_next kind bytes left (left - 1) at (Ok (c, next)) (one_left left at (length bytes) (omega arith) n) (stands kind bytes at s)
       ∙ ap (λ (x : Bool). after_command x (word_of c) next (straight_from kind bytes (left - 1) next)) y
 
   end_mends : Reading kind at bytes bytes
@@ -157,7 +157,7 @@ next_near (at_note b p l y h e) = omega arith
 module _ (kind : Kind) (at : ℕ) (bytes other : List ℕ) (n : length other ≡ length bytes) (b : take at other ≡ take at bytes) where
   record Whole (left : ℕ) : Type 0 where
     words : List ℕ
-    is : straight_from kind other left at ≡ record { words = words; reach = length bytes; finish = Ended }
+    is : straight_from kind other left at ≡ record { words = words; reach = length bytes; finish = Ok tt }
 
   whole_mends : at ≤ length bytes → ((left : ℕ) → length bytes ≤ left + at → Whole left) → Reading kind at bytes other
   whole_mends h w =
@@ -221,15 +221,15 @@ module _ (kind : Kind) (left at : ℕ) (bytes : List ℕ) (h : at < length bytes
       onward_mends kind at next bytes now (go next now) b p (later next now l (omega (arith, b.size))))
 
   mends_by : (d : Decoded) → command_at kind bytes at ≡ d → Reading kind at bytes (mended_by kind bytes at go d)
-  mends_by (Found c next) e =
+  mends_by (Ok (c, next)) e =
       let s = found kind bytes at e in
       by-test {A = List ℕ} (Reading kind at bytes) (is_end c) (λ y. end_mends kind at bytes c next s y)
       (λ y. onward_by next bytes (record { size = refl; before = refl; behind_it = refl }) (record { command = c; stands_there = s; no_end = y }))
-  mends_by (Refused number offset) e =
+  mends_by (Err (refusal, offset)) e =
       let v = rest_of kind in
-      by-test {A = List ℕ} (Reading kind at bytes) (eqb number past_data)
-      (λ y. closed_mends kind at bytes bytes refl refl h (omega (arith, past_there kind bytes at e (eqb-true number past_data y))))
-      (λ y. let z = eqb-false number past_data y in
+      by-test {A = List ℕ} (Reading kind at bytes) (eqb (number_of refusal) (number_of PastData))
+      (λ y. closed_mends kind at bytes bytes refl refl h (omega (arith, past_there kind bytes at e (eqb-true _ _ y))))
+      (λ y. let z = eqb-false _ _ y in
       let w = in_data kind bytes at e z in
       onward_by (offset + 1) (set bytes offset v)
       (record { size = length-set bytes offset v; before = take-set-le at bytes offset v w.0; behind_it = drop-set-lt (offset + 1) bytes offset v (omega arith) })
@@ -242,25 +242,25 @@ mends kind (suc left) at bytes h n =
     (mends_by kind left at bytes h n (λ next now i m. mends kind left next now i m) (command_at kind bytes at) refl)
 
 -- data that reads is left alone
-faulty : (kind : Kind) (bytes : List ℕ) (left at : ℕ) → length bytes ≤ at → (straight_from kind bytes left at).finish ≡ Ended → ⊥
+faulty : (kind : Kind) (bytes : List ℕ) (left at : ℕ) → length bytes ≤ at → (straight_from kind bytes left at).finish ≡ Ok tt → ⊥
 unfolding straight_from command_at
-faulty kind bytes zero at h e = not_ended _ _ e
-faulty kind bytes (suc left) at h e = not_ended past_data at (simp (le-leb _ _ h) at e)
+faulty kind bytes zero at h e = not_ended e
+faulty kind bytes (suc left) at h e = not_ended (simp (le-leb _ _ h) at e)
 
-module _ (kind : Kind) (bytes : List ℕ) (left l at : ℕ) (later : (next : ℕ) → (straight_from kind bytes l next).finish ≡ Ended → mended_from kind left next bytes ≡ bytes) where
-  kept_by : (d : Decoded) → (straight_by at (λ next. straight_from kind bytes l next) d).finish ≡ Ended → mended_by kind bytes at (λ next now. mended_from kind left next now) d ≡ bytes
-  kept_by (Found c next) e = kept_after (is_end c) e
+module _ (kind : Kind) (bytes : List ℕ) (left l at : ℕ) (later : (next : ℕ) → (straight_from kind bytes l next).finish ≡ Ok tt → mended_from kind left next bytes ≡ bytes) where
+  kept_by : (d : Decoded) → (straight_by at (λ next. straight_from kind bytes l next) d).finish ≡ Ok tt → mended_by kind bytes at (λ next now. mended_from kind left next now) d ≡ bytes
+  kept_by (Ok (c, next)) e = kept_after (is_end c) e
     where
-      kept_after : (y : Bool) → (after_command y (word_of c) next (straight_from kind bytes l next)).finish ≡ Ended → pick y bytes (onward kind at next (λ next now. mended_from kind left next now) bytes) ≡ bytes
+      kept_after : (y : Bool) → (after_command y (word_of c) next (straight_from kind bytes l next)).finish ≡ Ok tt → pick y bytes (onward kind at next (λ next now. mended_from kind left next now) bytes) ≡ bytes
       kept_after true f = refl
       kept_after false f =
           by-test {A = List ℕ} (λ (x : List ℕ). x ≡ bytes) (leb (length bytes) next)
           (λ y. absurd (faulty kind bytes l next (leb-true (length bytes) next y) f))
           (λ _. later next f)
-  kept_by (Refused number offset) e = absurd (not_ended number offset e)
+  kept_by (Err (refusal, offset)) e = absurd (not_ended e)
 
-pub kept : (kind : Kind) (bytes : List ℕ) (left l at : ℕ) → (straight_from kind bytes l at).finish ≡ Ended → mended_from kind left at bytes ≡ bytes
+pub kept : (kind : Kind) (bytes : List ℕ) (left l at : ℕ) → (straight_from kind bytes l at).finish ≡ Ok tt → mended_from kind left at bytes ≡ bytes
 unfolding straight_from mended_from
 kept kind bytes zero l at e = refl
-kept kind bytes (suc left) zero at e = absurd (not_ended _ _ e)
+kept kind bytes (suc left) zero at e = absurd (not_ended e)
 kept kind bytes (suc left) (suc l) at e = kept_by kind bytes left l at (λ next f. kept kind bytes left l next f) (command_at kind bytes at) e

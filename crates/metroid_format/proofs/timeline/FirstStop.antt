@@ -6,6 +6,7 @@ use mathlib.Core.Path.{◌≡◌, refl, ◌∙◌}
 use native.Mathlib.Numerals.{add-one}
 use native.Mathlib.Omega.{arith}
 use borrow.Author.Tests.{le-leb, lt-leb, leb-true, leb-false}
+use Rattle.std.specs.Prelude.{Option, None, Some}
 use lib.Dec.{leb}
 use lib.ListN.{length, get_or, take, drop, drop_of_length-le}
 use lib.Seq.{drop-cons, get_or-drop}
@@ -21,40 +22,37 @@ use Rattle.metroid_format.specs.declared.header.Voice.{Voice}
 use Rattle.metroid_format.specs.declared.header.Track.{Track}
 use Rattle.metroid_format.specs.declared.timeline.Soonest.{Soonest}
 
-sooner_nothing : (s : Soonest) → sooner s Soonest.Nothing ≡ s
-sooner_nothing Soonest.Nothing = refl
-sooner_nothing (Soonest.Stop n i finish) = refl
+sooner_nothing : (s : Option Soonest) → sooner s None ≡ s
+sooner_nothing None = refl
+sooner_nothing (Some s) = refl
 
-sooner_assoc : (a b c : Soonest) → sooner (sooner a b) c ≡ sooner a (sooner b c)
-sooner_assoc Soonest.Nothing b c = refl
-sooner_assoc (Soonest.Stop l i f) Soonest.Nothing c = refl
-sooner_assoc (Soonest.Stop l i f) (Soonest.Stop m j g) Soonest.Nothing = sooner_nothing _
-sooner_assoc (Soonest.Stop l i f) (Soonest.Stop m j g) (Soonest.Stop n k h) = one (leb l m) refl (leb m n) refl
+sooner_assoc : (a b c : Option Soonest) → sooner (sooner a b) c ≡ sooner a (sooner b c)
+sooner_assoc None b c = refl
+sooner_assoc (Some a) None c = refl
+sooner_assoc (Some a) (Some b) None = sooner_nothing _
+sooner_assoc (Some a) (Some b) (Some c) = one (leb a.frame b.frame) refl (leb b.frame c.frame) refl
   where
-    one : (first : Bool) → leb l m ≡ first → (last : Bool) → leb m n ≡ last →
-        sooner (sooner (Soonest.Stop l i f) (Soonest.Stop m j g)) (Soonest.Stop n k h) ≡
-        sooner (Soonest.Stop l i f) (sooner (Soonest.Stop m j g) (Soonest.Stop n k h))
+    one : (first : Bool) → leb a.frame b.frame ≡ first → (last : Bool) → leb b.frame c.frame ≡ last →
+        sooner (sooner (Some a) (Some b)) (Some c) ≡ sooner (Some a) (sooner (Some b) (Some c))
     one true e true d =
-        let w : l ≤ n = omega (arith, leb-true l m e, leb-true m n d) in
+        let w : a.frame ≤ c.frame = omega (arith, leb-true _ _ e, leb-true _ _ d) in
         simp (e, d, le-leb _ _ w)
     one true e false d = simp (e, d)
     one false e true d = simp (e, d)
     one false e false d =
-        let w : n < l = omega (arith, leb-false l m e, leb-false m n d) in
+        let w : c.frame < a.frame = omega (arith, leb-false _ _ e, leb-false _ _ d) in
         simp (e, d, lt-leb _ _ w)
 
 -- with what is found from the i-th channel on, the soonest so far gives the soonest of all
-pub record Looking (bank : List ℕ) (track : Track) (voices : List Voice) (i : ℕ) (soonest : Soonest) : Type 0 where
-  pub within : i ≤ 4
+pub record Looking (bank : List ℕ) (track : Track) (voices : List (Option Voice)) (i : ℕ) (soonest : Option Soonest) : Type 0 where
   pub four : length voices ≡ 4
   pub same : soonest_from bank track 0 voices ≡ sooner soonest (soonest_from bank track i (drop i voices))
 
-module _ (bank : List ℕ) (track : Track) (voices : List Voice) (i : ℕ) (soonest : Soonest) (m : Looking bank track voices i soonest) where
-  pub look_on : i < 4 → (d : Voice) (stop next : Soonest) → stop ≡ stop_of bank track i (get_or voices i d) → next ≡ sooner soonest stop →
+module _ (bank : List ℕ) (track : Track) (voices : List (Option Voice)) (i : ℕ) (soonest : Option Soonest) (m : Looking bank track voices i soonest) where
+  pub look_on : i < 4 → (d : Option Voice) (stop next : Option Soonest) → stop ≡ stop_of bank track i (get_or voices i d) → next ≡ sooner soonest stop →
       Looking bank track voices (i + 1) next
   unfolding soonest_from
   look_on h d stop next s e = record {
-    within = omega arith;
     four = m.four;
     same =
         let v : i < length voices = omega (arith, m.four) in
@@ -68,14 +66,14 @@ module _ (bank : List ℕ) (track : Track) (voices : List Voice) (i : ℕ) (soon
       rw (m.same, drop_of_length-le voices {i = i} v, sooner_nothing)
 
 -- its frame is at most so late
-abbrev pub StopWithin : ℕ → Soonest → Type 0
-StopWithin most Soonest.Nothing = Unit {0}
-StopWithin most (Soonest.Stop frame i finish) = frame ≤ most
+abbrev pub StopWithin : ℕ → Option Soonest → Type 0
+StopWithin most None = Unit {0}
+StopWithin most (Some stop) = stop.frame ≤ most
 
-sooner_within : (most : ℕ) (a b : Soonest) → StopWithin most a → StopWithin most b → StopWithin most (sooner a b)
-sooner_within most Soonest.Nothing b p q = q
-sooner_within most (Soonest.Stop l i f) Soonest.Nothing p q = p
-sooner_within most (Soonest.Stop l i f) (Soonest.Stop m j g) p q = by-test (StopWithin most) (leb l m) (λ _. p) λ _. q
+sooner_within : (most : ℕ) (a b : Option Soonest) → StopWithin most a → StopWithin most b → StopWithin most (sooner a b)
+sooner_within most None b p q = q
+sooner_within most (Some a) None p q = p
+sooner_within most (Some a) (Some b) p q = by-test (StopWithin most) (leb a.frame b.frame) (λ _. p) λ _. q
 
 take_bytes : (n : ℕ) (l : List ℕ) → AllBytes l → AllBytes (take n l)
 take_bytes zero l b i = omega arith
@@ -87,14 +85,11 @@ module _ (bank : List ℕ) (track : Track) (bytes : AllBytes bank) where
   table_bytes : AllBytes (take lengths_size (drop track.lengths bank))
   table_bytes = take_bytes lengths_size (drop track.lengths bank) λ i. rw (get_or-drop track.lengths bank i 0) (bytes (track.lengths + i))
 
-  stop_within : (i : ℕ) (v : Voice) → StopWithin (frames_a_byte * data_limit) (stop_of bank track i v)
-  unfolding stop_of
-  stop_within i v =
-      by-test (StopWithin (frames_a_byte * data_limit)) v.used
-      (λ _. omega (arith, timeline_bounded (channel_source bank track v) table_bytes, source_within bank track v)) λ _.
-      tt
+  stop_within : (i : ℕ) (v : Option Voice) → StopWithin (frames_a_byte * data_limit) (stop_of bank track i v)
+  stop_within i None = tt
+  stop_within i (Some v) = omega (arith, timeline_bounded (channel_source bank track v) table_bytes, source_within bank track v)
 
-  from_within : (i : ℕ) (vs : List Voice) → StopWithin (frames_a_byte * data_limit) (soonest_from bank track i vs)
+  from_within : (i : ℕ) (vs : List (Option Voice)) → StopWithin (frames_a_byte * data_limit) (soonest_from bank track i vs)
   unfolding soonest_from
   from_within i [] = tt
   from_within i (v ∷ vs) = sooner_within _ (stop_of bank track i v) _ (stop_within i v) (from_within (i + 1) vs)

@@ -2,19 +2,20 @@
 use Prim.Native.Nat.{ℕ, ◌≤◌}
 use native.Mathlib.Omega.{arith}
 use lib.ListN.{length}
+use Rattle.std.specs.Prelude.{Ok, Err}
 use Rattle.engine_base.specs.Refusal.{FaultAt}
+use Rattle.engine_base.specs.declared.refusal.Refusal.{Refusal}
 use Rattle.metroid_format.specs.Channel.{Source, fresh_cursor}
-use Rattle.metroid_format.specs.Timeline.{Walk}
+use Rattle.metroid_format.specs.Timeline.{Walk, Finish}
 use Rattle.metroid_format.proofs.command.Laws.{Wants}
 use Rattle.metroid_format.proofs.channel.Offsets.{Within, step_within}
 use Rattle.metroid_format.proofs.channel.Stepped.{Stepped, refuses, stepped}
 use Rattle.metroid_format.specs.declared.channel.Step.{Step}
 use Rattle.metroid_format.specs.declared.channel.Cursor.{Cursor}
-use Rattle.metroid_format.specs.declared.timeline.Finish.{Finish}
 
 abbrev pub FinishWithin : ℕ → ℕ → Finish → Type 0
-FinishWithin start limit Finish.End = Unit {0}
-FinishWithin start limit (Finish.Refused number at address) = FaultAt start limit number at address
+FinishWithin start limit (Ok passed) = Unit {0}
+FinishWithin start limit (Err (refusal, at, address)) = FaultAt start limit refusal at address
 
 module _ (source : Source) (limit : ℕ) (fits : length source.bytes ≤ limit) where
   walk_within : {cursor : Cursor} {frames : ℕ} {finish : Finish} → Walk source cursor frames finish → Within limit cursor → FinishWithin source.start limit finish
@@ -29,11 +30,11 @@ module _ (source : Source) (limit : ℕ) (fits : length source.bytes ≤ limit) 
 
 -- 15 wants a byte behind the data
 module _ {source : Source} where
-  step_wants : {cursor : Cursor} {number at address : ℕ} → Stepped source cursor (Step.Refused number at address) → Wants source.bytes number at
-  step_wants (refuses number at h w) = w
+  step_wants : {cursor : Cursor} {refusal : Refusal} {at address : ℕ} → Stepped source cursor (Step.Refused refusal at address) → Wants source.bytes refusal at
+  step_wants (refuses refusal at h w) = w
 
-  pub walk_wants : {cursor : Cursor} {frames number at address : ℕ} → Walk source cursor frames (Finish.Refused number at address) →
-      Wants source.bytes number at
+  pub walk_wants : {cursor : Cursor} {frames : ℕ} {refusal : Refusal} {at address : ℕ} → Walk source cursor frames (Err (refusal, at, address)) →
+      Wants source.bytes refusal at
   walk_wants (Walk.again e w) = walk_wants w
   walk_wants (Walk.note e w) = walk_wants w
   walk_wants (Walk.refused {cursor} e) = step_wants (rw e at (stepped source cursor))

@@ -7,32 +7,31 @@ use native.Mathlib.Omega.{arith}
 use borrow.Author.Tests.{ne_eqb}
 use lib.Dec.{eqb}
 use lib.ListN.{length, get_or}
+use Rattle.std.specs.Prelude.{Result, Ok, Err}
 use Rattle.engine_base.specs.Pick.{pick}
-use Rattle.engine_base.specs.Refusal.{no_length}
-use Rattle.metroid_format.specs.Command.{command_at}
-use Rattle.metroid_format.specs.Channel.{Source, address_at, fresh_cursor, length_fault, played_of, played_by, played_at, step_by, step_of}
-use Rattle.metroid_format.specs.Timeline.{Walk, again, note, ended, refused, after_lone, passed_by, passed_of, pass_by, pass_from, fresh_pass, timeline_of}
+use Rattle.engine_base.specs.declared.refusal.Refusal.{Refusal}
+use Rattle.engine_base.specs.declared.refusal.Refusal.TheVariants.{NoLength}
+use Rattle.metroid_format.specs.Command.{command_at, Decoded}
+use Rattle.metroid_format.specs.Channel.{Source, address_at, fresh_cursor, length_fault, played_of, played_by, played_unless, played_at, step_by, step_of}
+use Rattle.metroid_format.specs.Timeline.{Walk, again, note, ended, refused, after_lone, passed_by, passed_of, pass_by, pass_from, fresh_pass, timeline_of, Finish, Passed}
 use Rattle.metroid_format.proofs.channel.Stepped.{Plays, plays}
 use Rattle.metroid_format.proofs.channel.ReadSteps.{ByCommand}
 use Rattle.metroid_format.specs.declared.command.Command.{Command}
-use Rattle.metroid_format.specs.declared.command.Decoded.{Decoded}
 use Rattle.engine_base.specs.declared.time.Frames.{Frames}
 use Rattle.metroid_format.specs.declared.channel.Cursor.{Cursor}
 use Rattle.metroid_format.specs.declared.channel.Played.{Played}
 use Rattle.metroid_format.specs.declared.channel.Step.{Step}
 use Rattle.metroid_format.specs.declared.channel.Stop.{Stop}
 use Rattle.metroid_format.specs.declared.channel.Until.{Until}
-use Rattle.metroid_format.specs.declared.timeline.Finish.{Finish}
 use Rattle.metroid_format.specs.declared.timeline.Pass.{Pass}
-use Rattle.metroid_format.specs.declared.timeline.Passed.{Passed}
 
 -- what a walk is after its first command
 abbrev pub WalkBy : Source → Step → ℕ → Finish → Type 0
 WalkBy source (Step.Again after) frames finish = Walk source after frames finish
 WalkBy source (Step.Note b after) frames finish =
     (left : ℕ) × (frames ≡ after.length.count + left) × Walk source after left finish
-WalkBy source Step.End frames finish = (frames ≡ 0) × (finish ≡ Finish.End)
-WalkBy source (Step.Refused number at address) frames finish = (frames ≡ 0) × (finish ≡ Finish.Refused number at address)
+WalkBy source Step.End frames finish = (frames ≡ 0) × (finish ≡ Ok tt)
+WalkBy source (Step.Refused refusal at address) frames finish = (frames ≡ 0) × (finish ≡ Err (refusal, at, address))
 
 module _ {source : Source} where
   pub walked_by : {cursor : Cursor} {frames : ℕ} {finish : Finish} → Walk source cursor frames finish →
@@ -51,15 +50,15 @@ module _ {source : Source} where
   walk_unique {n = n} {g = g} (ended e) v =
       let (h, q) : WalkBy source Step.End n g = rw e at (walked_by v) in
       (sym h, sym q)
-  walk_unique {n = n} {g = g} (refused {number} {at} {address} e) v =
-      let (h, q) : WalkBy source (Step.Refused number at address) n g = rw e at (walked_by v) in
+  walk_unique {n = n} {g = g} (refused {refusal} {at} {address} e) v =
+      let (h, q) : WalkBy source (Step.Refused refusal at address) n g = rw e at (walked_by v) in
       (sym h, sym q)
 
 -- what is left of a walk where reading stops
 abbrev pub WalkAfter : Source → Cursor → Stop → ℕ → Finish → Type 0
 WalkAfter source cursor (Stop.Note b) frames finish = (left : ℕ) × (frames ≡ cursor.length.count + left) × Walk source cursor left finish
-WalkAfter source cursor Stop.End frames finish = (frames ≡ 0) × (finish ≡ Finish.End)
-WalkAfter source cursor (Stop.Refused number at address) frames finish = (frames ≡ 0) × (finish ≡ Finish.Refused number at address)
+WalkAfter source cursor Stop.End frames finish = (frames ≡ 0) × (finish ≡ Ok tt)
+WalkAfter source cursor (Stop.Refused refusal at address) frames finish = (frames ≡ 0) × (finish ≡ Err (refusal, at, address))
 
 pub read_walk : {source : Source} {cursor : Cursor} {count frames : ℕ} {until : Until} {finish : Finish} →
     ByCommand source cursor count until → Walk source cursor frames finish →
@@ -99,32 +98,33 @@ Replays length (Played.EndLoop next) = Unit {0}
 Replays length (Played.BeginLoop counter next) = Unit {0}
 Replays length (Played.Length b after next) = Unit {0}
 Replays length (Played.Note b next) = 0 < length.count
-Replays length (Played.Refused number place address) = ⊥
+Replays length (Played.Refused refusal place address) = ⊥
 
 replays : (source : Source) (at : ℕ) (m n : Frames) (p : Played) → Replays n p → played_at source at m ≡ p → played_at source at n ≡ p
 unfolding played_at
 replays source at m n p r e =
-    go (eqb (length_fault source.lengths source.window (get_or source.bytes at 0)) 0) (command_at source.kind source.bytes at) _ e
+    go (length_fault source.lengths source.window (get_or source.bytes at 0)) (command_at source.kind source.bytes at) e
   where
     play : Frames → Decoded → Played
     play length d = played_by source.start (played_of source.lengths source.window source.start at length) d
 
-    lone : (t : Bool) (b next : ℕ) → pick t (Played.Refused no_length at (address_at source.start at)) (Played.Note b next) ≡ p →
-        pick (eqb n.count 0) (Played.Refused no_length at (address_at source.start at)) (Played.Note b next) ≡ p
+    lone : (t : Bool) (b next : ℕ) → pick t (Played.Refused NoLength at (address_at source.start at)) (Played.Note b next) ≡ p →
+        pick (eqb n.count 0) (Played.Refused NoLength at (address_at source.start at)) (Played.Note b next) ≡ p
     lone true b next e = absurd (subst (Replays n) (sym e) r)
     lone false b next e =
         let long : 0 < n.count = subst (Replays n) (sym e) r in
         let some : n.count ≡ 0 → ⊥ = omega arith in
         rw (ne_eqb _ _ some) e
 
-    go : (t : Bool) (d : Decoded) (q : Played) → pick t (play m d) q ≡ p → pick t (play n d) q ≡ p
-    go false d q e = e
-    go true (Decoded.Found Command.End next) q e = e
-    go true (Decoded.Found Command.EndLoop next) q e = e
-    go true (Decoded.Found (Command.BeginLoop k) next) q e = e
-    go true (Decoded.Found (Command.Length l b) next) q e = e
-    go true (Decoded.Found (Command.Note b) next) q e = lone (eqb m.count 0) b next e
-    go true (Decoded.Refused number place) q e = e
+    go : (f : Result (Unit {0}) Refusal) (d : Decoded) → played_unless source.start at f (play m d) ≡ p →
+        played_unless source.start at f (play n d) ≡ p
+    go (Err refusal) d e = e
+    go (Ok passed) (Ok (Command.End, next)) e = e
+    go (Ok passed) (Ok (Command.EndLoop, next)) e = e
+    go (Ok passed) (Ok (Command.BeginLoop k, next)) e = e
+    go (Ok passed) (Ok (Command.Length l b, next)) e = e
+    go (Ok passed) (Ok (Command.Note b, next)) e = lone (eqb m.count 0) b next e
+    go (Ok passed) (Err (refusal, place)) e = e
 
 abbrev cursor_at : ℕ → ℕ → ℕ → Frames → Cursor
 cursor_at next start counter length = record { next = next; loop_start = start; counter = counter; length = length }
@@ -138,9 +138,9 @@ record Passing (source : Source) (origin : Cursor) (start : ℕ) (pass : Pass) :
       (cursor_at pass.next start counter (pick (eqb pass.rest 0) length pass.length))
 
 abbrev PassingBy : Source → Cursor → Pass → Passed → Type 0
-PassingBy source origin pass (Passed.On after) =
+PassingBy source origin pass (Ok after) =
     (start : ℕ) × (pass.next < after.next) × (after.next ≤ length source.bytes) × Passing source origin start after
-PassingBy source origin pass (Passed.Finished finish) = Walk source origin pass.frames finish
+PassingBy source origin pass (Err finish) = Walk source origin pass.frames finish
 
 step_at_lem : (source : Source) (cursor : Cursor) (p : Played) → played_at source cursor.next cursor.length ≡ p →
     step_of source cursor ≡ step_by cursor p
@@ -181,7 +181,7 @@ module _ (source : Source) (origin : Cursor) where
 
     lone : (b : ℕ) → pass.next < length source.bytes → 0 < pass.length.count →
         played_at source pass.next pass.length ≡ Played.Note b (pass.next + 1) →
-        (t : Bool) → eqb pass.rest 0 ≡ t → PassingBy source origin pass (Passed.On (after_lone t pass (pass.next + 1)))
+        (t : Bool) → eqb pass.rest 0 ≡ t → PassingBy source origin pass (Ok (after_lone t pass (pass.next + 1)))
     lone b h l e true t = (
       start,
       omega arith,
@@ -257,7 +257,7 @@ module _ (source : Source) (origin : Cursor) where
       },
     )
     passes _ e (Plays.lone b h l n) = lone b h l e (eqb pass.rest 0) refl
-    passes _ e (Plays.refused number place h w) = stops (refused (step_at_lem source here _ e))
+    passes _ e (Plays.refused refusal place h w) = stops (refused (step_at_lem source here _ e))
 
   -- a command passes a byte, so that the fuel is never used up
   pass_walks : (fuel start : ℕ) (pass : Pass) → length source.bytes - pass.next < fuel → Passing source origin start pass →
@@ -272,8 +272,8 @@ module _ (source : Source) (origin : Cursor) where
           Walk source origin (pass_from source fuel after).frames (pass_from source fuel after).finish) →
           (r : Passed) → PassingBy source origin pass r →
           Walk source origin (pass_by (pass_from source fuel) pass r).frames (pass_by (pass_from source fuel) pass r).finish
-      from further (Passed.On after) (start', l, w, then) = further start' after (omega arith) then
-      from further (Passed.Finished finish) w = w
+      from further (Ok after) (start', l, w, then) = further start' after (omega arith) then
+      from further (Err finish) w = w
 
 pub timeline_walk : (source : Source) → Walk source fresh_cursor (timeline_of source).frames (timeline_of source).finish
 unfolding timeline_of

@@ -2,8 +2,7 @@
 use Prim.Native.Nat.{ℕ}
 use mathlib.Core.List.{List, [], ◌∷◌, map}
 use mathlib.Core.Path.{◌≡◌, refl}
-use Rattle.metroid_format.specs.Command.{is_key, is_preset, note_after, command_of, command_at}
-use Rattle.metroid_format.specs.Command.{data_limit}
+use Rattle.metroid_format.specs.Command.{is_key, is_preset, note_after, command_of, command_at, data_limit}
 use Rattle.metroid_format.specs.Words.{straight_from, read_words, words_left, told_reading, command_of_word, encoded, write_words, bytes_left, told_writing, up_to_end}
 use Rattle.metroid_format.specs.declared.command.Kind.{Kind}
 use Rattle.metroid_format.specs.declared.command.Kind.TheVariants.{Melodic, Noise}

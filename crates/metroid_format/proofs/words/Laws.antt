@@ -1,8 +1,8 @@
 -- Straight reading and writing, a command at a time.
-use Prim.Native.Nat.{ℕ, zero, suc, ◌+◌, ◌-◌, ◌*◌, ◌^◌, ◌≤◌, ◌<◌}
+use Prim.Native.Nat.{ℕ, zero, suc, ◌+◌, ◌-◌, ◌*◌, ◌^◌, ◌/◌, ◌%◌, ◌≤◌, ◌<◌}
 use mathlib.Core.Bool.{Bool, true, false}
 use mathlib.Core.List.{List, [], ◌∷◌, ◌++◌, append-nil}
-use mathlib.Core.Path.{◌≡◌, refl, sym, ap, subst, ◌∙◌}
+use mathlib.Core.Path.{◌≡◌, refl, sym, subst, ◌∙◌}
 use native.Mathlib.Nat.{sub-zero}
 use native.Mathlib.Numerals.{add-one}
 use native.Mathlib.Omega.{arith}
@@ -12,55 +12,45 @@ use mir.Val.{Fits}
 use lib.Dec.{eqb, eqb-zero-suc, eqb-suc-zero, eqb-suc-suc}
 use lib.ListN.{length, get_or, set, take, drop, drop_of_length-le}
 use lib.Seq.{sets, drop-cons, length-take-le}
+use Rattle.std.specs.Prelude.{Ok, Err}
 use Rattle.engine_base.specs.Bytes.{word_at}
-use Rattle.engine_base.specs.Refusal.{past_data, invalid_word}
-use Rattle.metroid_format.specs.Command.{command_at, word_of, is_end}
-use Rattle.metroid_format.specs.Words.{pair, command_of_word, Straight, straight_from, straight_by, straight, after_command, Decodes, Encoded, encoded, encoded_by, before_rest, Encodes, word_size}
+use Rattle.engine_base.specs.declared.refusal.Refusal.{Refusal}
+use Rattle.engine_base.specs.declared.refusal.Refusal.TheVariants.{PastData, InvalidWord}
+use Rattle.metroid_format.specs.Command.{command_at, word_of, is_end, Decoded, Finish}
+use Rattle.metroid_format.specs.Words.{pair, command_of_word, Straight, straight_from, straight_by, straight, after_command, Decodes, Encoded, encoded, encoded_by, before_rest, Encodes}
 use Rattle.metroid_format.specs.declared.command.Kind.{Kind}
 use Rattle.metroid_format.specs.declared.command.Command.{Command}
-use Rattle.metroid_format.specs.declared.command.Decoded.{Decoded}
-use Rattle.metroid_format.specs.declared.command.Decoded.TheVariants.{Found, Refused}
-use Rattle.metroid_format.specs.declared.command.Finish.{Finish}
-use Rattle.metroid_format.specs.declared.command.Finish.TheVariants.{End as Ended, Refused as Faulty}
 use Rattle.engine_base.proofs.Picks.{by-test}
-use Rattle.metroid_format.proofs.command.Laws.{Stands, found, next_after, next_within, word_there}
-use Rattle.engine_base.proofs.Buffers.{Written, written_none, written_more}
+use Rattle.metroid_format.proofs.command.Laws.{Stands, found, next_within, word_there}
+use Rattle.engine_base.proofs.Buffers.{Written, written_more}
 
-abbrev ends : Decoded → Bool
-ends (Found c next) = is_end c
-ends (Refused number at) = false
-
--- what `size_of` answers of a word: the bytes of its command, and whether it is the end
-abbrev Sized : Kind → ℕ → ℕ → Bool → Type 0
-Sized kind w n y = (n ≡ word_size (command_of_word kind w)) × ((c : Command) (next : ℕ) → command_of_word kind w ≡ Found c next → y ≡ is_end c)
-
-sized : (kind : Kind) (w : ℕ) (d : Decoded) → command_of_word kind w ≡ d → Sized kind w (word_size d) (ends d)
-sized kind w d e = (ap word_size (sym e), λ c next f. ap ends (sym e ∙ f))
+pub le_bytes : (w : ℕ) → w < 2 ^ 16 → w % 256 ∷ w / 256 % 256 ∷ [] ≡ pair w
+le_bytes w h =
+    let small : w / 256 % 256 ≡ w / 256 = omega arith in
+    rw small
 
 -- r is what `command_at` answers of a word's two bytes, and v the word of the command's
-module _ (kind : Kind) (w : ℕ) (r : Decoded) (q : r ≡ command_at kind (pair w) 0) where
-  pub size_refused : (number offset : ℕ) → r ≡ Refused number offset → Sized kind w 0 false
+module _ (kind : Kind) (w : ℕ) (bytes : List ℕ) (b : bytes ≡ pair w) (r : Decoded) (q : r ≡ command_at kind bytes 0) (c : Command) (next : ℕ) (e : r ≡ Ok (c, next)) (part : List ℕ) (p : part ≡ take next bytes) (v : ℕ) (f : v ≡ word_at part 0) where
+  reads : command_at kind (pair w) 0 ≡ Ok (c, next)
+  reads = rw (← b) (sym q ∙ e)
+
+  given_word : v ≡ word_of c
+  given_word = f ∙ rw (p, b, ← sub-zero next) (word_there (found kind (pair w) 0 reads))
+
+  pub word_given : v ≡ w → Ok (c, next) ≡ command_of_word kind w
   unfolding command_of_word
-  size_refused number offset e = sized kind w (Refused invalid_word 0) (rw (← q, e))
+  word_given g = rw reads (simp (eq-eqb (word_of c) w (sym given_word ∙ g)))
 
-  module _ (c : Command) (next : ℕ) (e : r ≡ Found c next) (part : List ℕ) (p : part ≡ take next (pair w)) (v : ℕ) (f : v ≡ word_at part 0) where
-    given_word : v ≡ word_of c
-    given_word = f ∙ rw (p, ← sub-zero next) (word_there (found kind (pair w) 0 (sym q ∙ e)))
-
-    pub size_found : v ≡ w → (y : Bool) → y ≡ is_end c → Sized kind w next y
-    unfolding command_of_word
-    size_found g y t = rw t (sized kind w (Found c next) (rw (← q, e) (simp (eq-eqb (word_of c) w (sym given_word ∙ g)))))
-
-    pub size_other : (v ≡ w → ⊥) → Sized kind w 0 false
-    unfolding command_of_word
-    size_other g = sized kind w (Refused invalid_word 0) (rw (← q, e) (simp (ne_eqb (word_of c) w (λ h. g (given_word ∙ h)))))
+  pub word_other : (v ≡ w → ⊥) → Err (InvalidWord, 0) ≡ command_of_word kind w
+  unfolding command_of_word
+  word_other g = rw reads (simp (ne_eqb (word_of c) w (λ h. g (given_word ∙ h))))
 
 module _ (kind : Kind) (bytes : List ℕ) where
   pub straight_next : (left l at : ℕ) (d : Decoded) → left ≡ suc l → command_at kind bytes at ≡ d → straight_from kind bytes left at ≡ straight_by at (λ next. straight_from kind bytes l next) d
   unfolding straight_from
   straight_next left l at d e f = rw (e, f)
 
-  straight_none : (left at : ℕ) → left ≡ 0 → straight_from kind bytes left at ≡ record { words = []; reach = at; finish = Faulty past_data at }
+  straight_none : (left at : ℕ) → left ≡ 0 → straight_from kind bytes left at ≡ record { words = []; reach = at; finish = Err (PastData, at) }
   unfolding straight_from
   straight_none left at e = rw e
 
@@ -70,14 +60,6 @@ module _ (kind : Kind) (bytes : List ℕ) where
     pub written : Written before (straight kind bytes).words now n (straight_from kind bytes (length bytes - n) at).words
     pub finish : (straight kind bytes).finish ≡ (straight_from kind bytes (length bytes - n) at).finish
 
-  pub midway_none : (before : List ℕ) → Midway before before 0 0
-  midway_none before =
-      record {
-        within = omega arith;
-        written = rw sub-zero (written_none before (straight kind bytes).words);
-        finish = rw sub-zero;
-      }
-
   module _ (before now : List ℕ) (n at : ℕ) (m : Midway before now n at) where
     rest_is : (s : Straight) → straight_from kind bytes (length bytes - n) at ≡ s → Written before (straight kind bytes).words now n s.words × ((straight kind bytes).finish ≡ s.finish)
     rest_is s e = (rw e at m.written, rw e at m.finish)
@@ -85,10 +67,10 @@ module _ (kind : Kind) (bytes : List ℕ) where
     decodes : (f : Finish) (k : ℕ) (now' : List ℕ) → Written before (straight kind bytes).words now' k [] → (straight kind bytes).finish ≡ f → Decodes (straight kind bytes) before k f now'
     decodes f k now' w e = record { counted = omega (arith, w.count); stopped = sym e; filled = sym w.buffer }
 
-    pub decodes_past : length bytes ≤ n → Decodes (straight kind bytes) before n (Faulty past_data at) now
+    pub decodes_past : length bytes ≤ n → Decodes (straight kind bytes) before (length bytes) (Err (PastData, at)) now
     decodes_past h =
-        let r = rest_is _ (straight_none (length bytes - n) at (omega arith)) in
-        decodes _ n now r.0 r.1
+        let (w, e) = rest_is _ (straight_none (length bytes - n) at (omega arith)) in
+        record { counted = omega (arith, w.count, m.within); stopped = sym e; filled = sym w.buffer }
 
     module _ (h : n < length bytes) where
       one_more : length bytes - n ≡ suc (length bytes - (n + 1))
@@ -96,13 +78,13 @@ module _ (kind : Kind) (bytes : List ℕ) where
 
       -- r is what `command_at` answers
       module _ (r : Decoded) (q : r ≡ command_at kind bytes at) where
-        pub decodes_refused : (number offset : ℕ) → r ≡ Refused number offset → Decodes (straight kind bytes) before n (Faulty number offset) now
-        decodes_refused number offset e =
+        pub decodes_refused : (refusal : Refusal) (offset : ℕ) → r ≡ Err (refusal, offset) → Decodes (straight kind bytes) before n (Err (refusal, offset)) now
+        decodes_refused refusal offset e =
             let s = rest_is _ (straight_next _ _ at _ one_more (sym q ∙ e)) in
             decodes _ n now s.0 s.1
 
         -- w is the word of the command's bytes, and now' the buffer with the word
-        module _ (c : Command) (next : ℕ) (e : r ≡ Found c next) (part : List ℕ) (p : part ≡ take (next - at) (drop at bytes)) (w : ℕ) (f : w ≡ word_at part 0) (now' : List ℕ) (g : now' ≡ set now n w) where
+        module _ (c : Command) (next : ℕ) (e : r ≡ Ok (c, next)) (part : List ℕ) (p : part ≡ take (next - at) (drop at bytes)) (w : ℕ) (f : w ≡ word_at part 0) (now' : List ℕ) (g : now' ≡ set now n w) where
           standing : Stands kind bytes at c next
           standing = found kind bytes at (sym q ∙ e)
 
@@ -114,7 +96,7 @@ module _ (kind : Kind) (bytes : List ℕ) where
             after : (x : Bool) → y ≡ x → straight_from kind bytes (length bytes - n) at ≡ after_command x w next (straight_from kind bytes (length bytes - (n + 1)) next)
             after x z = straight_next _ _ at _ one_more (sym q ∙ e) ∙ rw (← t, ← word_is, z)
 
-            pub decodes_end : y ≡ true → Decodes (straight kind bytes) before (n + 1) Ended now'
+            pub decodes_end : y ≡ true → Decodes (straight kind bytes) before (n + 1) (Ok tt) now'
             decodes_end z =
                 let s = rest_is _ (after true z) in
                 decodes _ (n + 1) _ (rw g (written_more (w ∷ []) s.0)) s.1
@@ -125,34 +107,18 @@ module _ (kind : Kind) (bytes : List ℕ) where
                 record { within = omega arith; written = rw g (written_more (w ∷ []) s.0); finish = s.1 }
 
 abbrev Word : Kind → ℕ → Decoded → Type 0
-Word kind w (Found c next) = Stands kind (pair w) 0 c next × (word_of c ≡ w)
-Word kind w (Refused number offset) = Unit {0}
+Word kind w (Ok (c, next)) = Stands kind (pair w) 0 c next × (word_of c ≡ w)
+Word kind w (Err (refusal, offset)) = Unit {0}
 
 word_right : (kind : Kind) (w : ℕ) (d : Decoded) → command_at kind (pair w) 0 ≡ d → Word kind w (command_of_word kind w)
 unfolding command_of_word
-word_right kind w (Found c next) e =
+word_right kind w (Ok (c, next)) e =
     rw e (by-test (Word kind w) (eqb (word_of c) w) (λ f. (found kind (pair w) 0 e, eqb-true (word_of c) w f)) (λ _. tt))
-word_right kind w (Refused number offset) e = rw e tt
+word_right kind w (Err (refusal, offset)) e = rw e tt
 
 -- a word that stands for a command is read from both its bytes or its first
-pub word_stands : (kind : Kind) (w : ℕ) {c : Command} {next : ℕ} → command_of_word kind w ≡ Found c next → Stands kind (pair w) 0 c next × (word_of c ≡ w)
+pub word_stands : (kind : Kind) (w : ℕ) {c : Command} {next : ℕ} → command_of_word kind w ≡ Ok (c, next) → Stands kind (pair w) 0 c next × (word_of c ≡ w)
 word_stands kind w e = subst (Word kind w) e (word_right kind w (command_at kind (pair w) 0) refl)
-
--- by the size of a word's command
-module _ (kind : Kind) (w : ℕ) where
-  none_by : (d : Decoded) → command_of_word kind w ≡ d → word_size d ≡ 0 → (number : ℕ) × (offset : ℕ) × (command_of_word kind w ≡ Refused number offset)
-  none_by (Found c next) e z = absurd (omega (arith, next_after (word_stands kind w e).0))
-  none_by (Refused number offset) e z = (number, offset, e)
-
-  none_of : word_size (command_of_word kind w) ≡ 0 → (number : ℕ) × (offset : ℕ) × (command_of_word kind w ≡ Refused number offset)
-  none_of z = none_by (command_of_word kind w) refl z
-
-  one_by : {r : ℕ} (d : Decoded) → command_of_word kind w ≡ d → r ≡ word_size d → (r ≡ 0 → ⊥) → (c : Command) × (command_of_word kind w ≡ Found c r)
-  one_by (Found c next) e q z = (c, rw q e)
-  one_by (Refused number offset) e q z = absurd (z q)
-
-  one_of : {r : ℕ} → r ≡ word_size (command_of_word kind w) → (r ≡ 0 → ⊥) → (c : Command) × (command_of_word kind w ≡ Found c r)
-  one_of q z = one_by (command_of_word kind w) refl q z
 
 none_left : (i : ℕ) (l : List ℕ) → i ≤ length l → eqb (length (drop i l)) 0 ≡ eqb i (length l)
 none_left zero [] h = refl
@@ -176,9 +142,6 @@ module _ (kind : Kind) (words : List ℕ) where
     pub written : Written before (encoded kind words).bytes now n (encoded kind (drop i words)).bytes
     pub judged : (encoded kind words).valid ≡ (encoded kind (drop i words)).valid
 
-  pub halfway_none : (before : List ℕ) → Halfway before before 0 0
-  halfway_none before = record { within = omega arith; small = omega arith; written = written_none before (encoded kind words).bytes; judged = refl }
-
   module _ (before now : List ℕ) (i n : ℕ) (m : Halfway before now i n) where
     rest_of : (s : Encoded) → encoded kind (drop i words) ≡ s → Written before (encoded kind words).bytes now n s.bytes × ((encoded kind words).valid ≡ s.valid)
     rest_of s e = (rw e at m.written, rw e at m.judged)
@@ -186,47 +149,63 @@ module _ (kind : Kind) (words : List ℕ) where
     encodes : (v : Bool) (k : ℕ) (now' : List ℕ) → Written before (encoded kind words).bytes now' k [] → (encoded kind words).valid ≡ v → Encodes (encoded kind words) before k v now'
     encodes v k now' w e = record { counted = omega (arith, w.count); judged = sym e; filled = sym w.buffer }
 
-    pub encodes_past : length words ≤ i → Encodes (encoded kind words) before n false now
+    -- not all words are valid
+    pub record Invalid (now' : List ℕ) : Type 0 where
+      pub valid : (encoded kind words).valid ≡ false
+      pub written : now' ≡ sets before 0 (encoded kind words).bytes
+
+    invalid : (k : ℕ) (now' : List ℕ) → Written before (encoded kind words).bytes now' k [] → (encoded kind words).valid ≡ false → Invalid now'
+    invalid k now' w e = record { valid = e; written = sym w.buffer }
+
+    pub encodes_past : length words ≤ i → Invalid now
     encodes_past h =
         let s = rest_of _ (encoded_none i h) in
-        encodes _ n now s.0 s.1
+        invalid n now s.0 s.1
 
-    -- r and y are what `size_of` answers
-    module _ (h : i < length words) (r : ℕ) (q : r ≡ word_size (command_of_word kind (get_or words i 0))) where
-      pub encodes_refused : r ≡ 0 → Encodes (encoded kind words) before n false now
-      encodes_refused z =
-          let s = rest_of _ (encoded_next i _ h (none_of kind _ (sym q ∙ z)).2) in
-          encodes _ n now s.0 s.1
+    -- r is what `command_of_word` answers
+    module _ (h : i < length words) (r : Decoded) (q : r ≡ command_of_word kind (get_or words i 0)) where
+      pub encodes_refused : (refusal : Refusal) (offset : ℕ) → r ≡ Err (refusal, offset) → Invalid now
+      encodes_refused refusal offset e =
+          let s = rest_of _ (encoded_next i _ h (sym q ∙ e)) in
+          invalid n now s.0 s.1
 
-      module _ (z : r ≡ 0 → ⊥) where
-        here : (c : Command) × (command_of_word kind (get_or words i 0) ≡ Found c r)
-        here = one_of kind _ q z
+      module _ (c : Command) (size : ℕ) (e : r ≡ Ok (c, size)) where
+        here : command_of_word kind (get_or words i 0) ≡ Ok (c, size)
+        here = sym q ∙ e
 
-        small : r ≤ 2
-        small = next_within (word_stands kind _ here.1).0
+        small : size ≤ 2
+        small = next_within (word_stands kind _ here).0
 
-        pub bytes_fit : length words * 2 < 2 ^ 63 → Fits w64 (n + r)
+        pub bytes_fit : length words * 2 < 2 ^ 63 → Fits w64 (n + size)
         bytes_fit f = record { fits = omega (arith, m.small, small) }
 
         -- now' is the buffer with the word's bytes
-        module _ (now' : List ℕ) (g : now' ≡ sets now n (take r (pair (get_or words i 0)))) where
-          length_bytes : length (take r (pair (get_or words i 0))) ≡ r
-          length_bytes = length-take-le r (pair (get_or words i 0)) small
+        module _ (now' : List ℕ) (g : now' ≡ sets now n (take size (pair (get_or words i 0)))) where
+          length_bytes : length (take size (pair (get_or words i 0))) ≡ size
+          length_bytes = length-take-le size (pair (get_or words i 0)) small
 
-          more_bytes : (rest : List ℕ) → Written before (encoded kind words).bytes now n (take r (pair (get_or words i 0)) ++ rest) → Written before (encoded kind words).bytes now' (n + r) rest
+          more_bytes : (rest : List ℕ) → Written before (encoded kind words).bytes now n (take size (pair (get_or words i 0)) ++ rest) → Written before (encoded kind words).bytes now' (n + size) rest
           more_bytes rest w =
-              rw g (subst (λ (k : ℕ). Written before (encoded kind words).bytes (sets now n (take r (pair (get_or words i 0)))) (n + k) rest) length_bytes (written_more (take r (pair (get_or words i 0))) w))
+              rw g (subst (λ (k : ℕ). Written before (encoded kind words).bytes (sets now n (take size (pair (get_or words i 0)))) (n + k) rest) length_bytes (written_more (take size (pair (get_or words i 0))) w))
 
-          module _ (y : Bool) (t : (c : Command) (next : ℕ) → command_of_word kind (get_or words i 0) ≡ Found c next → y ≡ is_end c) where
-            after_word : (x : Bool) → y ≡ x → encoded kind (drop i words) ≡ before_rest x (take r (pair (get_or words i 0))) (drop (i + 1) words) (encoded kind (drop (i + 1) words))
-            after_word x e = encoded_next i _ h here.1 ∙ rw (← (t _ _ here.1), e)
+          -- y is what `is_end` answers
+          module _ (y : Bool) (t : y ≡ is_end c) where
+            after_word : (x : Bool) → y ≡ x → encoded kind (drop i words) ≡ before_rest x (take size (pair (get_or words i 0))) (drop (i + 1) words) (encoded kind (drop (i + 1) words))
+            after_word x z = encoded_next i _ h here ∙ rw (← t, z)
 
-            pub encodes_end : y ≡ true → Encodes (encoded kind words) before (n + r) (eqb (i + 1) (length words)) now'
-            encodes_end e =
-                let s = rest_of _ (after_word true e) in
-                encodes _ (n + r) _ (more_bytes [] (rw append-nil s.0)) (s.1 ∙ none_left (i + 1) words (omega arith))
+            module _ (z : y ≡ true) where
+              ends : Written before (encoded kind words).bytes now' (n + size) [] × ((encoded kind words).valid ≡ eqb (i + 1) (length words))
+              ends =
+                  let s = rest_of _ (after_word true z) in
+                  (more_bytes [] (rw append-nil s.0), s.1 ∙ none_left (i + 1) words (omega arith))
 
-            pub halfway_more : y ≡ false → Halfway before now' (i + 1) (n + r)
-            halfway_more e =
-                let s = rest_of _ (after_word false e) in
+              pub encodes_end : i + 1 ≡ length words → Encodes (encoded kind words) before (n + size) true now'
+              encodes_end l = encodes true (n + size) now' ends.0 (ends.1 ∙ eq-eqb _ _ l)
+
+              pub encodes_early : (i + 1 ≡ length words → ⊥) → Invalid now'
+              encodes_early l = invalid (n + size) now' ends.0 (ends.1 ∙ ne_eqb _ _ l)
+
+            pub halfway_more : y ≡ false → Halfway before now' (i + 1) (n + size)
+            halfway_more z =
+                let s = rest_of _ (after_word false z) in
                 record { within = omega arith; small = omega (arith, m.small, small); written = more_bytes _ s.0; judged = s.1 }

@@ -10,19 +10,12 @@ use borrow.Author.Tests.{eq-eqb, eqb-true, le-leb, leb-true}
 use lib.Dec.{leb, eqb}
 use lib.ListN.{length, get_or, take, drop, length-take, length-drop, length-append}
 use lib.Seq.{length-take-le, take-take, take-add, take-append_seam, drop-append_seam, drop-drop, get_or-take, get_or-drop, drop-cons}
-use Rattle.metroid_format.specs.Command.{command_at, word_of, is_end}
-use Rattle.metroid_format.specs.Words.{pair, command_of_word, Straight, finished, straight, straight_from, straight_by, after_command, Encoded, encoded, encoded_by, before_rest, read_words, words_left, write_words, bytes_left, up_to_end, WrittenAs, ReadAs, WritesBack, ReadsBack}
+use Rattle.std.specs.Prelude.{Ok, Err}
+use Rattle.metroid_format.specs.Command.{command_at, word_of, is_end, Decoded, Finish}
+use Rattle.metroid_format.specs.Words.{pair, command_of_word, Straight, finished, straight, straight_from, straight_by, after_command, Encoded, encoded, encoded_by, before_rest, read_words, words_left, write_words, bytes_left, up_to_end, WrittenAs, ReadAs, WritesBack, ReadsBack, Reading, Writing}
 use Rattle.metroid_format.specs.declared.command.Kind.{Kind}
 use Rattle.metroid_format.specs.declared.command.Command.{Command}
 use Rattle.metroid_format.specs.declared.command.Command.TheVariants.{End, EndLoop, BeginLoop, Length, Note}
-use Rattle.metroid_format.specs.declared.command.Decoded.{Decoded}
-use Rattle.metroid_format.specs.declared.command.Decoded.TheVariants.{Found, Refused}
-use Rattle.metroid_format.specs.declared.command.Finish.{Finish}
-use Rattle.metroid_format.specs.declared.command.Finish.TheVariants.{End as Ended, Refused as Faulty}
-use Rattle.metroid_format.specs.declared.words.Reading.{Reading}
-use Rattle.metroid_format.specs.declared.words.Reading.TheVariants.{Wrote}
-use Rattle.metroid_format.specs.declared.words.Writing.{Writing}
-use Rattle.metroid_format.specs.declared.words.Writing.TheVariants.{Wrote as Put}
 use Rattle.engine_base.proofs.Picks.{by-test, false_true}
 use Rattle.metroid_format.proofs.command.Laws.{Stands, at_end, at_end_loop, at_begin, at_length, at_note, found, stands, note_small, next_after, next_within}
 use Rattle.metroid_format.proofs.words.Laws.{straight_next, word_stands}
@@ -104,7 +97,7 @@ module _ (kind : Kind) (bytes : List ℕ) (at : ℕ) where
       (at_length l note s y (there 2 other e 1 (omega arith) h) (first ∙ f) (same_there 2 other e 1 (omega arith) h ∙ g))
   stands_there other (at_note b p s y h f) e = at_note b p s y (at_first other h e) (same_first other h e ∙ f)
 
-command_of_placed : (kind : Kind) (c : Command) → Stands kind (pair (word_of c)) 0 c (size_of c) → command_of_word kind (word_of c) ≡ Found c (size_of c)
+command_of_placed : (kind : Kind) (c : Command) → Stands kind (pair (word_of c)) 0 c (size_of c) → command_of_word kind (word_of c) ≡ Ok (c, size_of c)
 unfolding command_of_word
 command_of_placed kind c s = rw (stands kind (pair (word_of c)) 0 s) (simp (eq-eqb (word_of c) (word_of c) refl))
 
@@ -134,8 +127,8 @@ unfolding Within
 within_join xs ys l at p q =
     rw (length-append xs ys, take-add (length xs) (length ys) (drop at l), p, drop-drop (length xs) at l, q)
 
-pub not_ended : (number at : ℕ) → Faulty number at ≡ Ended → ⊥
-not_ended number at e = let z : ◌≡◌ {A = ℕ} 0 1 = cc in absurd (omega arith)
+pub not_ended : {A E : Type 0} {refused : E} {given : A} → Err refused ≡ Ok given → ⊥
+not_ended e = let z : ◌≡◌ {A = ℕ} 0 1 = cc in absurd (omega arith)
 
 module _ (kind : Kind) (bytes : List ℕ) where
   -- what is read from an offset on is encoded as the bytes from there
@@ -165,23 +158,23 @@ module _ (kind : Kind) (bytes : List ℕ) where
         size = rw e (omega (arith, a.size, q, length-append xs ys));
       }
 
-  module _ (at : ℕ) (go : ℕ → Straight) (rest : (next : ℕ) → (go next).finish ≡ Ended → Again next (go next)) where
+  module _ (at : ℕ) (go : ℕ → Straight) (rest : (next : ℕ) → (go next).finish ≡ Ok tt → Again next (go next)) where
     again_after : (c : Command) (next : ℕ) (b : Bool) → is_end c ≡ b → Stands kind bytes at c next
-        → (after_command b (word_of c) next (go next)).finish ≡ Ended → Again at (after_command b (word_of c) next (go next))
+        → (after_command b (word_of c) next (go next)).finish ≡ Ok tt → Again at (after_command b (word_of c) next (go next))
     again_after c next true b s f = again_end at next c (go next) (placed kind bytes at s) b
     again_after c next false b s f = again_more at next c (go next) (placed kind bytes at s) b (rest next f)
 
-    again_by : (d : Decoded) → command_at kind bytes at ≡ d → (straight_by at go d).finish ≡ Ended → Again at (straight_by at go d)
-    again_by (Found c next) e f = again_after c next (is_end c) refl (found kind bytes at e) f
-    again_by (Refused number offset) e f = absurd (not_ended number offset f)
+    again_by : (d : Decoded) → command_at kind bytes at ≡ d → (straight_by at go d).finish ≡ Ok tt → Again at (straight_by at go d)
+    again_by (Ok (c, next)) e f = again_after c next (is_end c) refl (found kind bytes at e) f
+    again_by (Err (refusal, offset)) e f = absurd (not_ended f)
 
-  again : (left at : ℕ) → (straight_from kind bytes left at).finish ≡ Ended → Again at (straight_from kind bytes left at)
+  again : (left at : ℕ) → (straight_from kind bytes left at).finish ≡ Ok tt → Again at (straight_from kind bytes left at)
   unfolding straight_from
-  again zero at f = absurd (not_ended _ at f)
+  again zero at f = absurd (not_ended f)
   again (suc left) at f = again_by at (λ next. straight_from kind bytes left next) (λ next g. again left next g) (command_at kind bytes at) refl f
 
   -- data that end are, up to and including the end, the bytes of their words
-  up_to_end_lem : (straight kind bytes).finish ≡ Ended → up_to_end kind bytes ≡ (encoded kind (straight kind bytes).words).bytes
+  up_to_end_lem : (straight kind bytes).finish ≡ Ok tt → up_to_end kind bytes ≡ (encoded kind (straight kind bytes).words).bytes
   unfolding up_to_end Within
   up_to_end_lem f =
       let a = again (length bytes) 0 f in
@@ -189,7 +182,7 @@ module _ (kind : Kind) (bytes : List ℕ) where
 
 -- valid words whose bytes are within the limit are written into any buffer with room
 module _ (limit : ℕ) (kind : Kind) (words : List ℕ) (v : (encoded kind words).valid ≡ true) (l : length (encoded kind words).bytes ≤ limit) (out : List ℕ) (h : length (encoded kind words).bytes ≤ length out) where
-  puts : write_words limit kind words (length out) ≡ Put (length (encoded kind words).bytes)
+  puts : write_words limit kind words (length out) ≡ Ok (length (encoded kind words).bytes)
   unfolding write_words
   puts = rw v (simp (le-leb _ _ h, le-leb _ _ l))
 
@@ -198,18 +191,18 @@ module _ (limit : ℕ) (kind : Kind) (words : List ℕ) (v : (encoded kind words
   written_as = record { answer = puts; start = rw puts (take-append_seam (encoded kind words).bytes _) }
 
 -- only an end gives a count, that of the words
-ended : (n count : ℕ) (f : Finish) → finished n f ≡ Wrote count → (f ≡ Ended) × (n ≡ count)
-ended n count Ended e = (refl, cc)
-ended n count (Faulty number at) e = let z : ◌≡◌ {A = ℕ} 0 1 = cc in absurd (omega arith)
+ended : (n count : ℕ) (f : Finish) → finished n f ≡ Ok count → (f ≡ Ok tt) × (n ≡ count)
+ended n count (Ok passed) e = (refl, cc)
+ended n count (Err (refusal, at)) e = absurd (not_ended e)
 
-pub reading_ended : (limit : ℕ) (kind : Kind) (bytes : List ℕ) (room count : ℕ) → read_words limit kind bytes room ≡ Wrote count
-    → ((straight kind (take limit bytes)).finish ≡ Ended) × (length (straight kind (take limit bytes)).words ≡ count)
+pub reading_ended : (limit : ℕ) (kind : Kind) (bytes : List ℕ) (room count : ℕ) → read_words limit kind bytes room ≡ Ok count
+    → ((straight kind (take limit bytes)).finish ≡ Ok tt) × (length (straight kind (take limit bytes)).words ≡ count)
 unfolding read_words
 reading_ended limit kind bytes room count e =
     let s = straight kind (take limit bytes) in
-    by-test (λ x. x ≡ Wrote count → (s.finish ≡ Ended) × (length s.words ≡ count)) (leb (length s.words) room)
+    by-test (λ x. x ≡ Ok count → (s.finish ≡ Ok tt) × (length s.words ≡ count)) (leb (length s.words) room)
     (λ _. ended (length s.words) count s.finish)
-    (λ _ q. let z : ◌≡◌ {A = ℕ} 0 1 = cc in absurd (omega arith)) e
+    (λ _ q. absurd (not_ended q)) e
 
 pub writes_back : (limit : ℕ) (kind : Kind) (bytes before : List ℕ) (answer : Reading) (after : List ℕ) → answer ≡ read_words limit kind bytes (length before) → after ≡ words_left limit kind bytes before
     → WritesBack limit kind bytes answer after
@@ -217,7 +210,7 @@ unfolding words_left
 writes_back limit kind bytes before answer after q b count e out h =
     let part = take limit bytes in
     let words = (straight kind part).words in
-    let r : read_words limit kind bytes (length before) ≡ Wrote count = sym q ∙ e in
+    let r : read_words limit kind bytes (length before) ≡ Ok count = sym q ∙ e in
     let d = reading_ended limit kind bytes (length before) count r in
     let a = again kind part (length part) 0 d.0 in
     let u = up_to_end_lem kind part d.0 in
@@ -240,12 +233,12 @@ empty_is (w ∷ ws) e = absurd (omega (arith, eqb-true (length (w ∷ ws)) 0 e))
 
 module _ (kind : Kind) (bytes : List ℕ) where
   Back : List ℕ → Encoded → Type 0
-  Back words e = (left at : ℕ) → e.valid ≡ true → Within e.bytes bytes at → length e.bytes ≤ left → straight_from kind bytes left at ≡ record { words = words; reach = at + length e.bytes; finish = Ended }
+  Back words e = (left at : ℕ) → e.valid ≡ true → Within e.bytes bytes at → length e.bytes ≤ left → straight_from kind bytes left at ≡ record { words = words; reach = at + length e.bytes; finish = Ok tt }
 
   straight_word : (left at : ℕ) (c : Command) (next : ℕ) (b : Bool) → Stands kind bytes at c next → is_end c ≡ b → 0 < left
       → straight_from kind bytes left at ≡ after_command b (word_of c) next (straight_from kind bytes (left - 1) next)
   straight_word left at c next b s e h =
-      straight_next kind bytes left (left - 1) at (Found c next) (omega arith) (stands kind bytes at s) ∙ rw e
+      straight_next kind bytes left (left - 1) at (Ok (c, next)) (omega arith) (stands kind bytes at s) ∙ rw e
 
   module _ (w : ℕ) (ws : List ℕ) (rest : Back ws (encoded kind ws)) where
     module _ (c : Command) (next : ℕ) (s : Stands kind (pair w) 0 c next) (e : word_of c ≡ w) (at : ℕ) where
@@ -272,8 +265,8 @@ module _ (kind : Kind) (bytes : List ℕ) where
 
     back_by : (d : Decoded) → command_of_word kind w ≡ d → Back (w ∷ ws) (encoded_by w ws (encoded kind ws) d)
     unfolding Back
-    back_by (Found c next) e = let s = word_stands kind w e in back_after c next (is_end c) refl s.0 s.1
-    back_by (Refused number offset) e = λ left at v p h. absurd (false_true v)
+    back_by (Ok (c, next)) e = let s = word_stands kind w e in back_after c next (is_end c) refl s.0 s.1
+    back_by (Err (refusal, offset)) e = λ left at v p h. absurd (false_true v)
 
   back : (words : List ℕ) → Back words (encoded kind words)
   unfolding Back encoded
@@ -286,26 +279,26 @@ record Fitting (limit : ℕ) (e : Encoded) (count : ℕ) : Type 0 where
   within : length e.bytes ≤ limit
   size : length e.bytes ≡ count
 
-writing_fits : (limit : ℕ) (kind : Kind) (words : List ℕ) (room count : ℕ) → write_words limit kind words room ≡ Put count → Fitting limit (encoded kind words) count
+writing_fits : (limit : ℕ) (kind : Kind) (words : List ℕ) (room count : ℕ) → write_words limit kind words room ≡ Ok count → Fitting limit (encoded kind words) count
 unfolding write_words
 writing_fits limit kind words room count e =
     let n = length (encoded kind words).bytes in
-    by-test (λ x. x ≡ Put count → Fitting limit (encoded kind words) count) (encoded kind words).valid
-    (λ v. by-test (λ x. x ≡ Put count → Fitting limit (encoded kind words) count) (leb n room)
-    (λ _. by-test (λ x. x ≡ Put count → Fitting limit (encoded kind words) count) (leb n limit)
+    by-test (λ x. x ≡ Ok count → Fitting limit (encoded kind words) count) (encoded kind words).valid
+    (λ v. by-test (λ x. x ≡ Ok count → Fitting limit (encoded kind words) count) (leb n room)
+    (λ _. by-test (λ x. x ≡ Ok count → Fitting limit (encoded kind words) count) (leb n limit)
     (λ l q. record { valid = v; within = leb-true n limit l; size = cc })
-    (λ _ q. let z : ◌≡◌ {A = ℕ} 0 1 = cc in absurd (omega arith)))
-    (λ _ q. let z : ◌≡◌ {A = ℕ} 0 1 = cc in absurd (omega arith)))
-    (λ _ q. let z : ◌≡◌ {A = ℕ} 0 1 = cc in absurd (omega arith)) e
+    (λ _ q. absurd (not_ended q)))
+    (λ _ q. absurd (not_ended q)))
+    (λ _ q. absurd (not_ended q)) e
 
 -- data that are read straight as these words, in so many bytes
-module _ (limit : ℕ) (kind : Kind) (bytes words : List ℕ) (size : ℕ) (s : straight kind (take limit bytes) ≡ record { words = words; reach = size; finish = Ended }) where
+module _ (limit : ℕ) (kind : Kind) (bytes words : List ℕ) (size : ℕ) (s : straight kind (take limit bytes) ≡ record { words = words; reach = size; finish = Ok tt }) where
   ends_there : size ≤ limit → up_to_end kind (take limit bytes) ≡ take size bytes
   unfolding up_to_end
   ends_there l = rw s (take-take size limit bytes l)
 
   module _ (out : List ℕ) (h : length words ≤ length out) where
-    reads : read_words limit kind bytes (length out) ≡ Wrote (length words)
+    reads : read_words limit kind bytes (length out) ≡ Ok (length words)
     unfolding read_words
     reads = rw s (simp (le-leb _ _ h))
 
@@ -318,12 +311,12 @@ pub reads_back : (limit : ℕ) (kind : Kind) (words before : List ℕ) (answer :
 unfolding bytes_left Within Back
 reads_back limit kind words before answer after q b count e bytes same =
     let enc = (encoded kind words).bytes in
-    let r : write_words limit kind words (length before) ≡ Put count = sym q ∙ e in
+    let r : write_words limit kind words (length before) ≡ Ok count = sym q ∙ e in
     let f = writing_fits limit kind words (length before) count r in
     let g : take count after ≡ enc = rw (b, r, ← f.size) (take-append_seam enc _) in
     let part = take limit bytes in
     let c : count ≤ limit = omega (arith, f.within, f.size) in
     let w : take (length enc) part ≡ enc = rw f.size (take-take count limit bytes c ∙ same ∙ g) in
     let s = back kind part words (length part) 0 f.valid w (rw sub-zero at (within_length enc part 0 w)) in
-    let t : straight kind part ≡ record { words = words; reach = count; finish = Ended } = s ∙ rw (zero-add (length enc), f.size) in
+    let t : straight kind part ≡ record { words = words; reach = count; finish = Ok tt } = s ∙ rw (zero-add (length enc), f.size) in
     (ends_there limit kind bytes words count t c ∙ same, λ out h. read_as limit kind bytes words count t out h)

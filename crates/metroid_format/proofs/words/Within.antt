@@ -7,19 +7,16 @@ use native.Mathlib.Omega.{arith}
 use borrow.Author.Tests.{leb-true}
 use lib.Dec.{leb, eqb}
 use lib.ListN.{length, get_or, take, length-take}
-use Rattle.metroid_format.specs.Command.{is_note, note_after, command_of, command_at, word_of, is_end}
-use Rattle.metroid_format.specs.Words.{Straight, straight, straight_from, straight_by, after_command, finished, read_words, Unreadable, is_10, is_11, is_15, ReadWithin, encoded, write_words, WroteWithin}
+use Rattle.std.specs.Prelude.{Ok, Err}
+use Rattle.metroid_format.specs.Command.{is_note, note_after, command_of, command_at, word_of, is_end, Decoded, Finish}
+use Rattle.metroid_format.specs.Words.{Straight, straight, straight_from, straight_by, after_command, finished, read_words, Unreadable, is_10, is_11, is_15, ReadWithin, encoded, write_words, WroteWithin, is_17, is_18}
 use Rattle.metroid_format.specs.declared.command.Kind.{Kind}
-use Rattle.metroid_format.specs.declared.command.Decoded.{Decoded}
-use Rattle.metroid_format.specs.declared.command.Decoded.TheVariants.{Found, Refused}
-use Rattle.metroid_format.specs.declared.command.Finish.{Finish}
-use Rattle.metroid_format.specs.declared.command.Finish.TheVariants.{End as Ended, Refused as Faulty}
 use Rattle.engine_base.proofs.Picks.{by-test}
 use Rattle.metroid_format.proofs.command.Laws.{found, refused_near, next_within}
 
 abbrev Shown : Decoded → Type 0
-Shown (Found c next) = Unit {0}
-Shown (Refused number at) = Unreadable number
+Shown (Ok (c, next)) = Unit {0}
+Shown (Err (refusal, at)) = Unreadable refusal
 
 -- a command's bytes show no other refusal
 shown : (kind : Kind) (bytes : List ℕ) (at : ℕ) → Shown (command_at kind bytes at)
@@ -36,8 +33,8 @@ shown kind bytes at =
     (λ _. by-test Shown (is_note kind (get_or bytes at 0)) (λ _. tt) (λ _. is_11)))))))
 
 abbrev Near : ℕ → Finish → Type 0
-Near limit Ended = Unit {0}
-Near limit (Faulty number at) = Unreadable number × (at ≤ limit)
+Near limit (Ok passed) = Unit {0}
+Near limit (Err (refusal, at)) = Unreadable refusal × (at ≤ limit)
 
 module _ (kind : Kind) (bytes : List ℕ) where
   -- at most so many words, and a refusal within the data
@@ -53,8 +50,8 @@ module _ (kind : Kind) (bytes : List ℕ) where
         record { words_few = omega (arith, r.words_few); finish_near = r.finish_near }
 
     short_by : (d : Decoded) → command_at kind bytes at ≡ d → Short (suc left) (straight_by at go d)
-    short_by (Found c next) e = short_after (is_end c) (word_of c) next (next_within (found kind bytes at e))
-    short_by (Refused number offset) e =
+    short_by (Ok (c, next)) e = short_after (is_end c) (word_of c) next (next_within (found kind bytes at e))
+    short_by (Err (refusal, offset)) e =
         let near = (refused_near kind bytes at e).0 in
         record { words_few = omega arith; finish_near = (subst Shown e (shown kind bytes at), omega arith) }
 
@@ -64,8 +61,8 @@ module _ (kind : Kind) (bytes : List ℕ) where
   short (suc left) at h = short_by at left h (λ next. straight_from kind bytes left next) (λ next n. short left next n) (command_at kind bytes at) refl
 
 finished_within : (limit n m : ℕ) (f : Finish) → n ≤ limit → m ≤ limit → Near m f → ReadWithin limit (finished n f)
-finished_within limit n m Ended h g w = h
-finished_within limit n m (Faulty number at) h g (u, w) = (u, omega arith)
+finished_within limit n m (Ok passed) h g w = h
+finished_within limit n m (Err (refusal, at)) h g (u, w) = (u, omega arith)
 
 pub read_within : (limit : ℕ) (kind : Kind) (bytes : List ℕ) (room : ℕ) → ReadWithin limit (read_words limit kind bytes room)
 unfolding read_words
@@ -83,6 +80,6 @@ wrote_within limit kind words room =
     let n = length (encoded kind words).bytes in
     by-test (WroteWithin limit) (encoded kind words).valid
     (λ _. by-test (WroteWithin limit) (leb n room)
-    (λ _. by-test (WroteWithin limit) (leb n limit) (λ l. leb-true n limit l) (λ _. tt))
-    (λ _. tt))
-    (λ _. tt)
+    (λ _. by-test (WroteWithin limit) (leb n limit) (λ l. leb-true n limit l) (λ _. is_18))
+    (λ _. is_18))
+    (λ _. is_17)

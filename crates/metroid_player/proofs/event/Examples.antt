@@ -1,8 +1,9 @@
 -- Document 02, No. 4, worked out by computation: the keys of a table with the words $0700, $01FB, $00FB and 0.
 use Prim.Native.Nat.{ℕ}
-use mathlib.Core.Bool.{true, false}
+use mathlib.Core.Bool.{false}
 use mathlib.Core.List.{List, [], ◌∷◌, map}
 use mathlib.Core.Path.{◌≡◌, refl}
+use Rattle.std.specs.Prelude.{Some}
 use Rattle.engine_base.specs.Bytes.{period_at}
 use Rattle.engine_base.specs.Ctrl1.{combined}
 use Rattle.metroid_format.specs.declared.command.Kind.TheVariants.{Melodic}
@@ -26,7 +27,7 @@ track = record { window = 0; restart = false; release = 0x05; lengths = 0; perio
 
 -- default ctrl 1 byte $B3
 abbrev voice : Voice
-voice = record { used = true; kind = Melodic; «data» = 0; has_envelope = true; envelope = 8; default = 0xb3 }
+voice = record { kind = Melodic; «data» = 0; envelope = Some 8; default = 0xb3 }
 
 -- the first of six frames
 abbrev sounding : ℕ → Channel

@@ -7,6 +7,8 @@ use mathlib.Core.Path.{◌≡◌, refl, sym, ap, ap₂, ◌∙◌}
 use lib.Dec.{eqb}
 use lib.ListN.{set, take, drop}
 use lib.Seq.{sets}
+use Rattle.std.specs.Prelude.{Option, Some, None, Result, Ok, Err}
+use Rattle.engine_base.specs.declared.refusal.Refusal.{Refusal}
 use Rattle.engine_base.specs.Bytes.{period_at}
 use Rattle.engine_base.specs.Channels.{four}
 use Rattle.engine_base.specs.Pick.{pick}
@@ -15,22 +17,21 @@ use Rattle.metroid_format.specs.Bank.{periods_size, presets_size}
 use Rattle.metroid_format.specs.Channel.{channel_source, Source, read_until}
 use Rattle.metroid_format.specs.Command.{data_limit}
 use Rattle.metroid_format.specs.Header.{open_track}
-use Rattle.metroid_format.specs.Timeline.{timeline_of, stop_of, sooner, soonest_from, soonest_of}
+use Rattle.metroid_format.specs.Timeline.{stop_of, sooner, soonest_from, soonest_of}
 use Rattle.metroid_format.specs.declared.bank.Places.{Places}
 use Rattle.metroid_format.specs.declared.command.Kind.{Kind}
 use Rattle.metroid_format.specs.declared.command.Kind.TheVariants.{Melodic, Noise as NoiseKind}
 use Rattle.metroid_format.specs.declared.header.Track.{Track}
 use Rattle.metroid_format.specs.declared.header.Voice.{Voice}
-use Rattle.metroid_format.specs.declared.timeline.Soonest.{Soonest}
 use Rattle.metroid_player.specs.Record.{cursor_of, record_fits}
 use Rattle.metroid_player.specs.Event.{off_event, is_rest, triangle_channel, melodic_rest, melodic_sound, noise_sound, by_kind, sound_of}
-use Rattle.metroid_player.specs.Frame.{one_off, turn_of_until, turn_of, Settled, settle_by, settle_from, framed_by, frame_of_track, frame_of, start_of}
+use Rattle.metroid_player.specs.Frame.{one_off, turn_of_until, turn_of, Settled, settle_by, settle_voice, settle_from, framed_by, frame_of_track, frame_opened, frame_of, started_opened, start_of}
 use Rattle.metroid_player.specs.declared.record.Channel.{Channel}
 use Rattle.metroid_player.specs.declared.record.Player.{Player}
 use Rattle.metroid_player.specs.declared.event.Event.{Event}
 use Rattle.metroid_player.specs.declared.event.Sound.{Sound}
 use Rattle.metroid_player.specs.declared.event.Sound.TheVariants.{Off, SquareRest, TriangleRest, NoiseRest, Square, Triangle, Noise}
-use Rattle.metroid_player.specs.declared.frame.Turned.{Turned}
+use Rattle.engine_base.specs.declared.answer.Turned.{Turned}
 use Rattle.metroid_player.specs.declared.frame.Turn.{Turn}
 use Rattle.metroid_player.specs.declared.frame.Framed.{Framed}
 use Rattle.engine_base.specs.declared.answer.Answer.{Answer}
@@ -59,10 +60,11 @@ rested f = record {
 }
 
 -- a channel's data and the note lengths
-abbrev pub SameSource : List ℕ → List ℕ → Track → Voice → Type 0
-SameSource bank bank' track v = v.used ≡ true → channel_source bank track v ≡ channel_source bank' track v
+abbrev pub SameSource : List ℕ → List ℕ → Track → Option Voice → Type 0
+SameSource bank bank' track None = Unit {0}
+SameSource bank bank' track (Some v) = channel_source bank track v ≡ channel_source bank' track v
 
-abbrev pub SameSources : List ℕ → List ℕ → Track → List Voice → Type 0
+abbrev pub SameSources : List ℕ → List ℕ → Track → List (Option Voice) → Type 0
 SameSources bank bank' track [] = Unit {0}
 SameSources bank bank' track (v ∷ vs) = SameSource bank bank' track v × SameSources bank bank' track vs
 
@@ -114,13 +116,12 @@ module _ (bank bank' : List ℕ) (track : Track) where
       by_kind_lem v.kind _ _ _ _ ((melodic_rests bank track i v c).same ∙ sym (melodic_rests bank' track i v c).same)
       (ap (λ (presets : List ℕ). noise_sound presets c.sounding) p)
 
-  same_turn : (v : Voice) (c : Channel) → SameSource bank bank' track v →
+  same_turn : (v : Voice) (c : Channel) → SameSource bank bank' track (Some v) →
       turn_of bank track v c ≡ turn_of bank' track v c
   unfolding turn_of
   same_turn v c e =
-      pick_same (λ (t : Turn). t) v.used _ _ _ λ u.
       pick_same (λ (t : Turn). t) (eqb c.left.count 0) _ _ _ λ _.
-      ap (λ (source : Source). turn_of_until c (read_until data_limit source (cursor_of c))) (e u)
+      ap (λ (source : Source). turn_of_until c (read_until data_limit source (cursor_of c))) e
 
   -- the channels gone through, with melodic notes made rests
   record SameSettled (s s' : Settled) : Type 0 where
@@ -132,12 +133,6 @@ module _ (bank bank' : List ℕ) (track : Track) where
   module _ (p : SamePresets bank bank' track) where
     settle_turned : (i : ℕ) (v : Voice) (t : Turn) (turned : Turned) {rest rest' : Settled} → SameSettled rest rest' →
         SameSettled (settle_by bank track i v t turned rest) (settle_by bank' track i v t turned rest')
-    settle_turned i v t Turned.Off r = record {
-      answers = r.answers;
-      events = ap (λ (es : List Event). off_event ∷ es) r.events;
-      counts = ap (λ (ns : List ℕ). t.count ∷ ns) r.counts;
-      channels = ap (λ (cs : List Channel). t.channel ∷ cs) r.channels;
-    }
     settle_turned i v t Turned.Plays r = record {
       answers = r.answers;
       events =
@@ -147,17 +142,26 @@ module _ (bank bank' : List ℕ) (track : Track) where
       channels = ap (λ (cs : List Channel). one_off t.channel ∷ cs) r.channels;
     }
     settle_turned i v t Turned.End r = record { answers = refl; events = refl; counts = refl; channels = refl }
-    settle_turned i v t (Turned.Refused number at address) r =
+    settle_turned i v t (Turned.Refused refusal at address) r =
         record { answers = refl; events = refl; counts = refl; channels = refl }
 
-    same_settled : (i : ℕ) (vs : List Voice) (cs : List Channel) → SameSources bank bank' track vs →
+    same_voice : (i : ℕ) (v : Option Voice) (c : Channel) {rest rest' : Settled} → SameSource bank bank' track v →
+        SameSettled rest rest' → SameSettled (settle_voice bank track i v c rest) (settle_voice bank' track i v c rest')
+    same_voice i None c e r = record {
+      answers = r.answers;
+      events = ap (λ (es : List Event). off_event ∷ es) r.events;
+      counts = ap (λ (ns : List ℕ). 0 ∷ ns) r.counts;
+      channels = ap (λ (cs : List Channel). c ∷ cs) r.channels;
+    }
+    same_voice i (Some v) c e r =
+        rw (← same_turn v c e) (settle_turned i v (turn_of bank track v c) (turn_of bank track v c).turned r)
+
+    same_settled : (i : ℕ) (vs : List (Option Voice)) (cs : List Channel) → SameSources bank bank' track vs →
         SameSettled (settle_from bank track i vs cs) (settle_from bank' track i vs cs)
     unfolding settle_from
     same_settled i [] cs d = record { answers = refl; events = refl; counts = refl; channels = refl }
     same_settled i (v ∷ vs) [] d = record { answers = refl; events = refl; counts = refl; channels = refl }
-    same_settled i (v ∷ vs) (c ∷ cs) (e, d) =
-        rw (← same_turn v c e)
-        (settle_turned i v (turn_of bank track v c) (turn_of bank track v c).turned (same_settled (i + 1) vs cs d))
+    same_settled i (v ∷ vs) (c ∷ cs) (e, d) = same_voice i v c e (same_settled (i + 1) vs cs d)
 
   framed_same : (player : Player) (s s' : Settled) → SameSettled s s' → (answer : Answer) →
       rested (framed_by track player s answer) ≡ rested (framed_by track player s' answer)
@@ -171,8 +175,8 @@ module _ (bank bank' : List ℕ) (track : Track) where
       )
   framed_same player s s' r Answer.End = rw r.counts
   framed_same player s s' r Answer.Stopped = refl
-  framed_same player s s' r (Answer.Refused number) = refl
-  framed_same player s s' r (Answer.Fault number i at address) = rw r.counts
+  framed_same player s s' r (Answer.Refused refusal) = refl
+  framed_same player s s' r (Answer.Fault refusal i at address) = rw r.counts
 
   -- from any record
   pub track_alike : Alike bank bank' track → (player : Player) →
@@ -186,14 +190,12 @@ module _ (bank bank' : List ℕ) (track : Track) where
       let r = same_settled same.presets 0 track.voices player.channels same.sources in
       framed_same player s s' r s.answer ∙ ap (λ (answer : Answer). rested (framed_by track player s' answer)) r.answers
 
-  same_stop : (i : ℕ) (v : Voice) → SameSource bank bank' track v →
+  same_stop : (i : ℕ) (v : Option Voice) → SameSource bank bank' track v →
       stop_of bank track i v ≡ stop_of bank' track i v
-  unfolding stop_of
-  same_stop i v e =
-      pick_same (λ (stop : Soonest). stop) v.used _ _ _ λ u.
-      ap (λ (source : Source). Soonest.Stop (timeline_of source).frames i (timeline_of source).finish) (e u)
+  same_stop i None e = refl
+  same_stop i (Some v) e = rw e
 
-  same_soonest : (i : ℕ) (vs : List Voice) → SameSources bank bank' track vs →
+  same_soonest : (i : ℕ) (vs : List (Option Voice)) → SameSources bank bank' track vs →
       soonest_from bank track i vs ≡ soonest_from bank' track i vs
   unfolding soonest_from
   same_soonest i [] d = refl
@@ -203,16 +205,29 @@ module _ (bank bank' : List ℕ) (track : Track) where
   pub stop_alike : Alike bank bank' track → soonest_of bank track ≡ soonest_of bank' track
   stop_alike same = same_soonest 0 track.voices same.sources
 
+-- alike to a track that opens; of one that does not nothing is asked
+abbrev pub AlikeOpened : List ℕ → List ℕ → Result Track Refusal → Type 0
+AlikeOpened bank bank' (Ok track) = Alike bank bank' track
+AlikeOpened bank bank' (Err refusal) = Unit {0}
+
+module _ (bank bank' : List ℕ) where
+  opened_frame_alike : (opened : Result Track Refusal) → AlikeOpened bank bank' opened → (player : Player) →
+      rested (frame_opened bank player opened) ≡ rested (frame_opened bank' player opened)
+  opened_frame_alike (Ok track) same player = track_alike bank bank' track same player
+  opened_frame_alike (Err refusal) same player = refl
+
+  opened_start_alike : (opened : Result Track Refusal) → AlikeOpened bank bank' opened →
+      started_opened bank opened ≡ started_opened bank' opened
+  opened_start_alike (Ok track) same = rw (stop_alike bank bank' track same)
+  opened_start_alike (Err refusal) same = refl
+
 -- two banks in which the track opens alike
 module _ (bank bank' : List ℕ) (places : Places) (track : ℕ) (o : open_track bank places track ≡ open_track bank' places track)
-    (same : Alike bank bank' (open_track bank places track).track) where
+    (same : AlikeOpened bank bank' (open_track bank places track)) where
   pub frame_alike : (player : Player) → rested (frame_of bank places track player) ≡ rested (frame_of bank' places track player)
   unfolding frame_of
-  frame_alike player =
-      rw (← o)
-      (pick_same rested (eqb (open_track bank places track).number 0) _ _ _ λ _.
-      track_alike bank bank' (open_track bank places track).track same player)
+  frame_alike player = rw (← o) (opened_frame_alike bank bank' (open_track bank places track) same player)
 
   pub start_alike : start_of bank places track ≡ start_of bank' places track
   unfolding start_of
-  start_alike = rw (← o, stop_alike bank bank' (open_track bank places track).track same)
+  start_alike = rw (← o) (opened_start_alike bank bank' (open_track bank places track) same)

@@ -12,7 +12,8 @@ use lib.ListN.{length, take, length-append}
 use Rattle.io.specs.Digits.{last_digits, IsDigitCount}
 use Rattle.engine_base.proofs.Picks.{by-test}
 use Rattle.metroid_text.specs.Decimal.{digit, digits_within, digits_most, decimal}
-use Rattle.metroid_text.specs.Line.{Puts}
+use Rattle.metroid_text.specs.Line.{Writes}
+use Rattle.metroid_text.specs.declared.line.Line.{Line}
 
 pub digits_short : (most n : ℕ) → length (digits_within most n) ≤ most
 unfolding digits_within
@@ -56,5 +57,8 @@ module _ (n k : ℕ) (bytes : List ℕ) (h : Fits w64 n) (f : IsDigitCount 10 1 
   pub decimal_room : (at : ℕ) → at + digits_most < 2 ^ 64 → at + length (take k bytes) < 2 ^ 64
   decimal_room at r = rw taken (omega (arith, digits_short digits_most n))
 
-  pub decimal_put : {m at next : ℕ} {before after : List ℕ} → Puts m (take k bytes) before at next after → Puts digits_most (decimal n) before at next after
-  decimal_put p = record { size = rw taken at p.size; within = digits_short digits_most n; buffer = rw taken at p.buffer }
+  pub decimal_writes : {m : ℕ} {before after : Line} → Writes m (take k bytes) before after → Writes digits_most (decimal n) before after
+  decimal_writes p = record {
+    put = record { size = rw taken at p.put.size; within = digits_short digits_most n; buffer = rw taken at p.put.buffer };
+    same = p.same;
+  }

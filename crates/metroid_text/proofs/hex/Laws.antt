@@ -10,7 +10,8 @@ use lib.Dec.{leb}
 use lib.ListN.{length, take}
 use Rattle.io.specs.Digits.{last_digits, IsDigitCount}
 use Rattle.metroid_text.specs.Hex.{hex_digits, hex}
-use Rattle.metroid_text.specs.Line.{Puts}
+use Rattle.metroid_text.specs.Line.{Writes}
+use Rattle.metroid_text.specs.declared.line.Line.{Line}
 
 low_digits : (n : ℕ) → last_digits 16 hex_digits (n % 65536) ≡ hex n
 low_digits n =
@@ -37,5 +38,8 @@ module _ (n k : ℕ) (bytes : List ℕ) (f : IsDigitCount 16 hex_digits (n % 655
   pub hex_room : (at : ℕ) → at + hex_digits < 2 ^ 64 → at + length (take k bytes) < 2 ^ 64
   hex_room at r = rw taken r
 
-  pub hex_put : {m at next : ℕ} {before after : List ℕ} → Puts m (take k bytes) before at next after → Puts hex_digits (hex n) before at next after
-  hex_put p = record { size = rw taken at p.size; within = omega arith; buffer = rw taken at p.buffer }
+  pub hex_writes : {m : ℕ} {before after : Line} → Writes m (take k bytes) before after → Writes hex_digits (hex n) before after
+  hex_writes p = record {
+    put = record { size = rw taken at p.put.size; within = omega arith; buffer = rw taken at p.put.buffer };
+    same = p.same;
+  }

@@ -4,18 +4,20 @@ use mathlib.Core.Bool.{Bool, true, false, cond}
 use mathlib.Core.List.{List, [], ◌∷◌, map}
 use mathlib.Core.Path.{◌≡◌, refl, sym, subst, ◌∙◌}
 use native.Mathlib.Omega.{arith}
-use borrow.Author.Tests.{ltb-true, ltb-false, le-leb, lt-leb, leb-true, leb-false, eq-eqb, ne_eqb, eqb-true, eqb-false}
+use borrow.Author.Tests.{ltb-true, ltb-false, le-leb, lt-leb, leb-true, leb-false, ne_eqb, eqb-true, eqb-false}
 use lib.Dec.{leb, ltb, eqb}
 use lib.IntN.{ℤ, pos, negsuc, nat_abs, ◌+ℤ◌}
 use lib.ListN.{length, get_or}
-use Rattle.engine_base.specs.Refusal.{envelope_too_high}
+use Rattle.std.specs.Prelude.{Ok, Err, Option, Some, None, Result}
+use Rattle.engine_base.specs.declared.refusal.Refusal.{Refusal}
+use Rattle.engine_base.specs.declared.refusal.Refusal.TheVariants.{EnvelopeTooHigh}
 use Rattle.engine_base.specs.declared.time.Frames.{Frames}
-use Rattle.engine_base.proofs.Picks.{by-test, passed as test-passed}
+use Rattle.engine_base.proofs.Picks.{by-test, refused_given, passed as test-passed}
 use Rattle.mother_format.specs.Bank.{block_of, lengths_size}
 use Rattle.mother_format.specs.Command.{is_key, is_note, rule_of, note_after, timbre_after, command_by, command_at, bytes_of}
 use Rattle.mother_format.specs.Transpose.{amount_of, is_odd, rest_key, last_key, in_table, transposed_of}
 use Rattle.mother_format.specs.Envelope.{last_envelope, envelope_fault}
-use Rattle.mother_format.specs.Channel.{Source, block_source, length_at, length_fault, timbre_fault, early_fault, sounding_of, note_played, played_of, played_by, played_rule, played_at}
+use Rattle.mother_format.specs.Channel.{Source, block_source, length_at, length_fault, timbre_fault, early_fault, sounding_of, note_played, played_of, played_by, unless_refused, played_rule, played_at}
 use Rattle.mother_format.specs.Straight.{Placed, Straight, is_end, before, straight_by, straight_from, straight}
 use Rattle.mother_format.proofs.command.Laws.{Sorted, sorted, stands, command_is}
 use Rattle.mother_format.proofs.straight.Within.{bytes_some}
@@ -24,11 +26,10 @@ use Rattle.mother_format.specs.declared.command.Kind.{Kind}
 use Rattle.mother_format.specs.declared.command.Kind.TheVariants.{Square, Triangle, Noise}
 use Rattle.mother_format.specs.declared.command.Rule.{Rule}
 use Rattle.mother_format.specs.declared.command.Command.{Command}
-use Rattle.mother_format.specs.declared.command.Decoded.{Decoded}
-use Rattle.mother_format.specs.declared.transpose.Sounding.{Sounding}
+use Rattle.mother_format.specs.Command.{Decoded}
 use Rattle.mother_format.specs.declared.channel.Setting.{Setting}
 use Rattle.mother_format.specs.declared.channel.Played.{Played}
-use Rattle.mother_format.specs.declared.straight.Finish.{Finish}
+use Rattle.mother_format.specs.Straight.{Finish}
 use Rattle.mother_player.specs.Record.{sounds_in, timbre_fits}
 use Rattle.mother_check.specs.Settings.{transpose_of, window_of, in_commands, settings_by}
 use Rattle.mother_check.specs.Reading.{passed}
@@ -43,9 +44,9 @@ module _ (kind : Kind) (bytes : List ℕ) where
   record Onward (more at : ℕ) (c : Command) (next : ℕ) : Type 0 where
     less : ℕ
     room : length bytes ≤ next + less
-    is : straight_from kind bytes more at ≡ straight_by at (λ n. straight_from kind bytes less n) (Decoded.Found c next)
+    is : straight_from kind bytes more at ≡ straight_by at (λ n. straight_from kind bytes less n) (Ok (c, next))
 
-  onward : (more at : ℕ) {c : Command} {next : ℕ} → length bytes ≤ at + more → command_at kind bytes at ≡ Decoded.Found c next →
+  onward : (more at : ℕ) {c : Command} {next : ℕ} → length bytes ≤ at + more → command_at kind bytes at ≡ Ok (c, next) →
       Onward more at c next
   unfolding straight_from
   onward zero at {c} h e =
@@ -85,7 +86,7 @@ unrefused site (Played.BeginLoop counter next) e = tt
 unrefused site (Played.Length b frames next) e = tt
 unrefused site (Played.Timbre x c next) e = tt
 unrefused site (Played.Note b next) e = tt
-unrefused site (Played.Refused number at address) e = cons_none e
+unrefused site (Played.Refused refusal at address) e = cons_none e
 
 module _ (source : Source) (site : Site) where
   command_clean : (ss : List Setting) (sized : Bool) (at : ℕ) {s : Setting} → command_faults source site ss sized at ≡ [] → In s ss →
@@ -134,62 +135,62 @@ module _ (bank8 banka : List ℕ) (places : Places) (kind : Kind) (start : ℕ) 
     clean_plays {at} {p} v m = command_clean source site ss p.sized at (clean_here source site ss p at _ _ (clean_from v).holds) m
 
     pub clean_ends : {at next : ℕ} {p : Progress} → Visits kind bytes (entering sized) at p →
-        command_at kind bytes at ≡ Decoded.Found Command.End next → p.noted ≡ true
+        command_at kind bytes at ≡ Ok (Command.End, next) → p.noted ≡ true
     clean_ends {at} {next} {p} v e =
         let r = clean_from v in
         let o = onward kind bytes r.more at r.room e in
-        from p.noted (clean_finish source site ss at p (Finish.End at) (subst (Clean source site ss at p) o.is r.holds))
+        from p.noted (clean_finish source site ss at p (Ok at) (subst (Clean source site ss at p) o.is r.holds))
       where
-        from : (noted : Bool) → finish_faults site noted (Finish.End at) ≡ [] → noted ≡ true
+        from : (noted : Bool) → finish_faults site noted (Ok at) ≡ [] → noted ≡ true
         from true f = refl
         from false f = absurd (cons_none f)
 
 module _ (kind : Kind) (bytes : List ℕ) (at : ℕ) where
   -- of a command that a rule finds: the rule, and its note or timbre
-  abbrev Means : Rule → Decoded → Type 0
-  Means rule (Decoded.Found Command.End next) = Unit {0}
-  Means rule (Decoded.Found (Command.Transpose m) next) = Unit {0}
-  Means rule (Decoded.Found (Command.Window t) next) = Unit {0}
-  Means rule (Decoded.Found Command.EndLoop next) = Unit {0}
-  Means rule (Decoded.Found (Command.Length l b) next) = (rule ≡ Rule.Length l) × (is_note kind b ≡ true)
-  Means rule (Decoded.Found (Command.BeginLoop n) next) = Unit {0}
-  Means rule (Decoded.Found (Command.Timbre x c) next) = (rule ≡ Rule.Timbre) × (at + 1 < length bytes) × (get_or bytes (at + 1) 0 ≡ x)
-  Means rule (Decoded.Found (Command.Note b) next) = is_note kind b ≡ true
-  Means rule (Decoded.Refused number offset) = Unit {0}
+  abbrev Means : Result Rule Refusal → Decoded → Type 0
+  Means rule (Ok (Command.End, next)) = Unit {0}
+  Means rule (Ok (Command.Transpose m, next)) = Unit {0}
+  Means rule (Ok (Command.Window t, next)) = Unit {0}
+  Means rule (Ok (Command.EndLoop, next)) = Unit {0}
+  Means rule (Ok (Command.Length l b, next)) = (rule ≡ Ok (Rule.Length l)) × (is_note kind b ≡ true)
+  Means rule (Ok (Command.BeginLoop n, next)) = Unit {0}
+  Means rule (Ok (Command.Timbre x c, next)) = (rule ≡ Ok Rule.Timbre) × (at + 1 < length bytes) × (get_or bytes (at + 1) 0 ≡ x)
+  Means rule (Ok (Command.Note b, next)) = is_note kind b ≡ true
+  Means rule (Err (refusal, offset)) = Unit {0}
 
-  means : (rule : Rule) → Sorted kind (get_or bytes at 0) rule → Means rule (command_by kind bytes at rule)
+  means : (rule : Result Rule Refusal) → Sorted kind (get_or bytes at 0) rule → Means rule (command_by kind bytes at rule)
   unfolding note_after timbre_after
-  means Rule.End s = tt
-  means Rule.Transpose s = by-test (Means Rule.Transpose) (leb (length bytes) (at + 1)) (λ _. tt) λ _. tt
-  means Rule.Window s = by-test (Means Rule.Window) (leb (length bytes) (at + 1)) (λ _. tt) λ _. tt
-  means Rule.EndLoop s = tt
-  means (Rule.Length l) s =
-      by-test (Means (Rule.Length l)) (leb (length bytes) (at + 1)) (λ _. tt) λ _.
-      by-test (Means (Rule.Length l)) (is_note kind (get_or bytes (at + 1) 0)) (λ t. (refl, t)) λ _. tt
-  means (Rule.BeginLoop n) s = tt
-  means Rule.Timbre s =
-      by-test (Means Rule.Timbre) (leb (length bytes) (at + 1)) (λ _. tt) λ n.
-      by-test (Means Rule.Timbre) (leb (length bytes) (at + 1 + 1)) (λ _. tt) λ _. (refl, leb-false _ _ n, refl)
-  means Rule.Note s = s
-  means (Rule.Invalid number) s = tt
+  means (Ok Rule.End) s = tt
+  means (Ok Rule.Transpose) s = by-test (Means (Ok Rule.Transpose)) (leb (length bytes) (at + 1)) (λ _. tt) λ _. tt
+  means (Ok Rule.Window) s = by-test (Means (Ok Rule.Window)) (leb (length bytes) (at + 1)) (λ _. tt) λ _. tt
+  means (Ok Rule.EndLoop) s = tt
+  means (Ok (Rule.Length l)) s =
+      by-test (Means (Ok (Rule.Length l))) (leb (length bytes) (at + 1)) (λ _. tt) λ _.
+      by-test (Means (Ok (Rule.Length l))) (is_note kind (get_or bytes (at + 1) 0)) (λ t. (refl, t)) λ _. tt
+  means (Ok (Rule.BeginLoop n)) s = tt
+  means (Ok Rule.Timbre) s =
+      by-test (Means (Ok Rule.Timbre)) (leb (length bytes) (at + 1)) (λ _. tt) λ n.
+      by-test (Means (Ok Rule.Timbre)) (leb (length bytes) (at + 1 + 1)) (λ _. tt) λ _. (refl, leb-false _ _ n, refl)
+  means (Ok Rule.Note) s = s
+  means (Err refusal) s = tt
 
-  found_means : {c : Command} {next : ℕ} → command_at kind bytes at ≡ Decoded.Found c next →
-      Means (rule_of kind (get_or bytes at 0)) (Decoded.Found c next)
+  found_means : {c : Command} {next : ℕ} → command_at kind bytes at ≡ Ok (c, next) →
+      Means (rule_of kind (get_or bytes at 0)) (Ok (c, next))
   found_means {c} e =
       let (size, near, small) = stands kind bytes at e in
       let inside : at < length bytes = omega (arith, bytes_some c) in
       subst (Means (rule_of kind (get_or bytes at 0))) (sym (command_is kind bytes at inside) ∙ e)
       (means (rule_of kind (get_or bytes at 0)) (sorted kind (get_or bytes at 0)))
 
-  pub note_is : {b next : ℕ} → command_at kind bytes at ≡ Decoded.Found (Command.Note b) next → is_note kind b ≡ true
+  pub note_is : {b next : ℕ} → command_at kind bytes at ≡ Ok (Command.Note b, next) → is_note kind b ≡ true
   note_is e = found_means e
 
-  pub length_note : {l b next : ℕ} → command_at kind bytes at ≡ Decoded.Found (Command.Length l b) next → is_note kind b ≡ true
+  pub length_note : {l b next : ℕ} → command_at kind bytes at ≡ Ok (Command.Length l b, next) → is_note kind b ≡ true
   length_note e = (found_means e).1
 
 -- a command that is not refused: its early tests passed, and so did those of what it does
 module _ (source : Source) (s : Setting) (f : Frames) (at : ℕ) where
-  abbrev early : ℕ
+  abbrev early : Result (Unit {0}) Refusal
   early = early_fault source.bank source.places source.kind source.bytes s.window at (rule_of source.kind (get_or source.bytes at 0))
 
   abbrev decoded : Decoded → Played
@@ -197,44 +198,46 @@ module _ (source : Source) (s : Setting) (f : Frames) (at : ℕ) where
 
   record Accepted : Type 0 where
     inside : at < length source.bytes
-    none_early : early ≡ 0
+    none_early : early ≡ Ok tt
     played : Unrefused (decoded (command_at source.kind source.bytes at))
 
   accepted : Unrefused (played_at source s f at) → Accepted
   unfolding played_at played_rule
   accepted =
-      by-test (λ x. Unrefused x → Accepted) (leb (length source.bytes) at) (λ _ x. absurd x) λ n.
-      by-test (λ x. Unrefused x → Accepted) (eqb early 0)
-      (λ z x. record {
-        inside = leb-false _ _ n;
-        none_early = eqb-true _ _ z;
-        played = rw (command_is source.kind source.bytes at (leb-false _ _ n)) x;
-      }) λ _ x.
-      absurd x
+      by-test (λ x. Unrefused x → Accepted) (leb (length source.bytes) at) (λ _ x. absurd x) λ n. by (leb-false _ _ n) early refl
+    where
+      by : at < length source.bytes → (x : Result (Unit {0}) Refusal) → early ≡ x →
+          Unrefused (unless_refused source.start at x (decoded (command_by source.kind source.bytes at (rule_of source.kind (get_or source.bytes at 0))))) → Accepted
+      by inside (Ok none) e u = record {
+        inside = inside;
+        none_early = e;
+        played = rw (command_is source.kind source.bytes at inside) u;
+      }
+      by inside (Err refusal) e u = absurd u
 
   accepts : Accepted → Unrefused (played_at source s f at)
   unfolding played_at played_rule
   accepts a =
-      rw (lt-leb (length source.bytes) at a.inside, eq-eqb early 0 a.none_early, ← (command_is source.kind source.bytes at a.inside))
+      rw (lt-leb (length source.bytes) at a.inside, a.none_early, ← (command_is source.kind source.bytes at a.inside))
       a.played
 
-longer_note : (start at next : ℕ) (f g : Frames) (x : Sounding) → Unrefused (note_played start at f next x) → 0 < g.count →
+longer_note : (start at next : ℕ) (f g : Frames) (x : Option ℕ) → Unrefused (note_played start at f next x) → 0 < g.count →
     Unrefused (note_played start at g next x)
-longer_note start at next f g (Sounding.Byte b) u h = rw (ne_eqb g.count 0 (omega arith)) tt
-longer_note start at next f g Sounding.Outside u h = u
+longer_note start at next f g (Some b) u h = rw (ne_eqb g.count 0 (omega arith)) tt
+longer_note start at next f g None u h = u
 
 longer_by : (source : Source) (s : Setting) (f g : Frames) (at : ℕ) (d : Decoded) → Unrefused (decoded source s f at d) → 0 < g.count →
     Unrefused (decoded source s g at d)
-longer_by source s f g at (Decoded.Found Command.End next) u h = u
-longer_by source s f g at (Decoded.Found (Command.Transpose m) next) u h = u
-longer_by source s f g at (Decoded.Found (Command.Window t) next) u h = u
-longer_by source s f g at (Decoded.Found Command.EndLoop next) u h = u
-longer_by source s f g at (Decoded.Found (Command.Length l b) next) u h = u
-longer_by source s f g at (Decoded.Found (Command.BeginLoop n) next) u h = u
-longer_by source s f g at (Decoded.Found (Command.Timbre x c) next) u h = u
-longer_by source s f g at (Decoded.Found (Command.Note b) next) u h =
+longer_by source s f g at (Ok (Command.End, next)) u h = u
+longer_by source s f g at (Ok (Command.Transpose m, next)) u h = u
+longer_by source s f g at (Ok (Command.Window t, next)) u h = u
+longer_by source s f g at (Ok (Command.EndLoop, next)) u h = u
+longer_by source s f g at (Ok (Command.Length l b, next)) u h = u
+longer_by source s f g at (Ok (Command.BeginLoop n, next)) u h = u
+longer_by source s f g at (Ok (Command.Timbre x c, next)) u h = u
+longer_by source s f g at (Ok (Command.Note b, next)) u h =
     longer_note source.start at next f g (sounding_of source.kind b s.transpose) u h
-longer_by source s f g at (Decoded.Refused number offset) u h = u
+longer_by source s f g at (Err (refusal, offset)) u h = u
 
 -- 14 asks only that there is a length
 pub longer : (source : Source) (s : Setting) (f g : Frames) (at : ℕ) → Unrefused (played_at source s f at) → 0 < g.count →
@@ -248,24 +251,24 @@ longer source s f g at u h =
       played = longer_by source s f g at (command_at source.kind source.bytes at) a.played h;
     })
 
-timbre_is : (bank : List ℕ) (table : ℕ) (kind : Kind) (x : ℕ) → timbre_fault bank table kind x ≡ 0 → timbre_fits kind x ≡ true
+timbre_is : (bank : List ℕ) (table : ℕ) (kind : Kind) (x : ℕ) → timbre_fault bank table kind x ≡ Ok tt → timbre_fits kind x ≡ true
 unfolding envelope_fault
-timbre_is bank table Square x e = (test-passed (leb (x % 32) last_envelope) envelope_too_high _ (omega arith) e).0
+timbre_is bank table Square x e = (test-passed (leb (x % 32) last_envelope) EnvelopeTooHigh _ e).0
 timbre_is bank table Triangle x e = refl
 timbre_is bank table Noise x e = refl
 
-length_is : (bank : List ℕ) (table window l : ℕ) → length_fault bank table window l ≡ 0 → 0 < length_at bank table window l
+length_is : (bank : List ℕ) (table window l : ℕ) → length_fault bank table window l ≡ Ok tt → 0 < length_at bank table window l
 unfolding length_fault
 length_is bank table window l =
-    by-test Known (leb lengths_size (window + l)) (λ _ e. absurd (omega arith)) λ _.
-    by-test Known (eqb (length_at bank table window l) 0) (λ _ e. absurd (omega arith)) λ t _.
+    by-test Known (leb lengths_size (window + l)) (λ _ e. absurd (refused_given _ _ e)) λ _.
+    by-test Known (eqb (length_at bank table window l) 0) (λ _ e. absurd (refused_given _ _ e)) λ t _.
     let above : length_at bank table window l ≡ 0 → ⊥ = eqb-false _ _ t in omega arith
   where
-    Known : ℕ → Type 0
-    Known n = n ≡ 0 → 0 < length_at bank table window l
+    Known : Result (Unit {0}) Refusal → Type 0
+    Known x = x ≡ Ok tt → 0 < length_at bank table window l
 
 module _ (source : Source) (s : Setting) (f : Frames) (at : ℕ) (u : Unrefused (played_at source s f at)) where
-  pub timbre_fits_lem : {x c next : ℕ} → command_at source.kind source.bytes at ≡ Decoded.Found (Command.Timbre x c) next →
+  pub timbre_fits_lem : {x c next : ℕ} → command_at source.kind source.bytes at ≡ Ok (Command.Timbre x c, next) →
       timbre_fits source.kind x ≡ true
   timbre_fits_lem {x} e =
       let (rule, inside, is) = found_means source.kind source.bytes at e in
@@ -273,14 +276,14 @@ module _ (source : Source) (s : Setting) (f : Frames) (at : ℕ) (u : Unrefused 
       timbre_is source.bank source.places.envelope_addresses source.kind x
       (rw (rule, lt-leb (length source.bytes) (at + 1) inside, is) at none)
 
-  pub length_some : {l b next : ℕ} → command_at source.kind source.bytes at ≡ Decoded.Found (Command.Length l b) next →
+  pub length_some : {l b next : ℕ} → command_at source.kind source.bytes at ≡ Ok (Command.Length l b, next) →
       0 < length_at source.bank source.places.note_lengths s.window l
   length_some {l} e =
       let none = (accepted source s f at u).none_early in
       length_is source.bank source.places.note_lengths s.window l (rw (found_means source.kind source.bytes at e).0 at none)
 
 module _ (kind : Kind) (bytes : List ℕ) (first : Progress) (set : Command → List ℕ) (x : ℕ) where
-  set_in : {at next : ℕ} {p : Progress} {c : Command} → Visits kind bytes first at p → command_at kind bytes at ≡ Decoded.Found c next →
+  set_in : {at next : ℕ} {p : Progress} {c : Command} → Visits kind bytes first at p → command_at kind bytes at ≡ Ok (c, next) →
       is_end c ≡ false → In x (set c) → In x (in_commands set (straight kind bytes).commands)
   set_in {at} {next} {p} {c} v e t m =
       let r = reached kind bytes Later (λ h. h) (λ at p c rest on h. on (in_right (set c) h)) v in
@@ -292,11 +295,11 @@ module _ (kind : Kind) (bytes : List ℕ) (first : Progress) (set : Command → 
       Later at p s = In x (in_commands set s.commands) → In x (in_commands set (straight kind bytes).commands)
 
 module _ (kind : Kind) (bytes : List ℕ) {first : Progress} {at next : ℕ} {p : Progress} (v : Visits kind bytes first at p) where
-  pub transpose_in : {m : ℕ} → command_at kind bytes at ≡ Decoded.Found (Command.Transpose m) next → is_odd m ≡ false →
+  pub transpose_in : {m : ℕ} → command_at kind bytes at ≡ Ok (Command.Transpose m, next) → is_odd m ≡ false →
       In m (in_commands transpose_of (straight kind bytes).commands)
   transpose_in {m} e even = set_in kind bytes first transpose_of m v e refl (rw even here)
 
-  pub window_in : {t : ℕ} → command_at kind bytes at ≡ Decoded.Found (Command.Window t) next →
+  pub window_in : {t : ℕ} → command_at kind bytes at ≡ Ok (Command.Window t, next) →
       In t (in_commands window_of (straight kind bytes).commands)
   window_in {t} e = set_in kind bytes first window_of t v e refl here
 
@@ -328,9 +331,9 @@ pub all_even : (cs : List Placed) {m : ℕ} → In m (in_commands transpose_of c
 all_even [] i = none_in i
 all_even (c ∷ cs) {m} i = in_one (transpose_of c.command) (command_even c.command m) (λ j. all_even cs j) i
 
-abbrev Sounds : Kind → Sounding → Type 0
-Sounds kind (Sounding.Byte sound) = sounds_in kind sound ≡ true
-Sounds kind Sounding.Outside = Unit {0}
+abbrev Sounds : Kind → Option ℕ → Type 0
+Sounds kind (Some sound) = sounds_in kind sound ≡ true
+Sounds kind None = Unit {0}
 
 -- a key and an amount are even, and so is the key that sounds
 sum_even : (b : ℕ) (z : ℤ) → b % 2 ≡ 0 → nat_abs z % 2 ≡ 0 → nat_abs (pos b +ℤ z) % 2 ≡ 0
@@ -341,7 +344,7 @@ sum_even b (negsuc n) h e = from (ltb b (suc n)) refl
     from true t = let less : b < suc n = ltb-true _ _ t in omega arith
     from false t = let least : suc n ≤ b = ltb-false _ _ t in omega arith
 
-key_sounds : (n : ℕ) → n % 2 ≡ 0 → n ≤ last_key → Sounds Square (Sounding.Byte n)
+key_sounds : (n : ℕ) → n % 2 ≡ 0 → n ≤ last_key → Sounds Square (Some n)
 unfolding is_key
 key_sounds n e h = rw (le-leb n last_key h, e)
 
@@ -357,7 +360,7 @@ transposed_sounds b m k o =
     let not-odd : nat_abs (amount_of m) % 2 ≡ 1 → ⊥ = eqb-false _ _ o in
     table_sounds (pos b +ℤ amount_of m) (sum_even b (amount_of m) key (omega arith))
 
-pub sounds_fit : (kind : Kind) (b m sound : ℕ) → is_note kind b ≡ true → is_odd m ≡ false → sounding_of kind b m ≡ Sounding.Byte sound →
+pub sounds_fit : (kind : Kind) (b m sound : ℕ) → is_note kind b ≡ true → is_odd m ≡ false → sounding_of kind b m ≡ Some sound →
     sounds_in kind sound ≡ true
 sounds_fit Square b m sound k o e = subst (Sounds Square) e (transposed_sounds b m k o)
 sounds_fit Triangle b m sound k o e = subst (Sounds Square) e (transposed_sounds b m k o)

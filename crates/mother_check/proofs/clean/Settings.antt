@@ -1,10 +1,9 @@
 -- What it says of a track that it has no fault: of each block that its used channels name, and of what is set in them.
 use Prim.Native.Nat.{ℕ, ◌+◌}
-use mathlib.Core.Bool.{Bool, true, false}
+use mathlib.Core.Bool.{Bool, false}
 use mathlib.Core.List.{List, [], ◌∷◌}
 use mathlib.Core.Path.{◌≡◌}
-use Rattle.engine_base.specs.Pick.{pick}
-use Rattle.engine_base.proofs.Picks.{by-test}
+use Rattle.std.specs.Prelude.{Option, Some, None}
 use Rattle.mother_format.specs.Bank.{banks, block_of}
 use Rattle.mother_format.specs.Transpose.{is_odd}
 use Rattle.mother_format.specs.Straight.{straight}
@@ -15,7 +14,7 @@ use Rattle.mother_format.specs.declared.channel.Setting.{Setting}
 use Rattle.mother_format.specs.declared.header.Voice.{Voice}
 use Rattle.mother_format.specs.declared.header.Track.{Track}
 use Rattle.mother_check.specs.Walk.{Named, block, bad, named}
-use Rattle.mother_check.specs.Settings.{transpose_of, window_of, in_commands, in_blocks, in_voices, transposes_of, windows_of, settings_of}
+use Rattle.mother_check.specs.Settings.{transpose_of, window_of, in_commands, in_blocks, in_voice, in_voices, transposes_of, windows_of, settings_of}
 use Rattle.mother_check.specs.Faults.{site_of, block_faults, sized_after, named_faults, channel_faults, voices_faults, track_faults}
 use Rattle.mother_check.proofs.Member.{In, here, there, in_left, in_right, in_one, none_in, cons_none, none_both}
 use Rattle.mother_check.proofs.clean.Laws.{all_even}
@@ -70,27 +69,27 @@ module _ (bank8 banka : List ℕ) (places : Places) (ss : List Setting) where
     i : ℕ
     none : named_faults bank8 banka places v.kind i ss false (named (banks bank8 banka) v.list) ≡ []
 
-  channel_clean : (i : ℕ) (v : Voice) → v.used ≡ true → channel_faults bank8 banka places i ss v ≡ [] → CleanNames v
+  channel_clean : (i : ℕ) (v : Voice) → channel_faults bank8 banka places i ss (Some v) ≡ [] → CleanNames v
   unfolding channel_faults
-  channel_clean i v used e = record { i = i; none = rw used at e }
+  channel_clean i v e = record { i = i; none = e }
 
-  voices_clean : (i : ℕ) (vs : List Voice) {v : Voice} → voices_faults bank8 banka places i ss vs ≡ [] → In v vs → v.used ≡ true → CleanNames v
+  voices_clean : (i : ℕ) (vs : List (Option Voice)) {v : Voice} → voices_faults bank8 banka places i ss vs ≡ [] → In (Some v) vs → CleanNames v
   unfolding voices_faults
-  voices_clean i (_ ∷ vs) {v} e here used = channel_clean i v used (none_both (channel_faults bank8 banka places i ss v) _ e).0
-  voices_clean i (w ∷ vs) e (there m) used = voices_clean (i + 1) vs (none_both (channel_faults bank8 banka places i ss w) _ e).1 m used
-  voices_clean i [] {v = v} e x3 used = elim x3 [ ]
+  voices_clean i (_ ∷ vs) {v} e here = channel_clean i v (none_both (channel_faults bank8 banka places i ss (Some v)) _ e).0
+  voices_clean i (w ∷ vs) e (there m) = voices_clean (i + 1) vs (none_both (channel_faults bank8 banka places i ss w) _ e).1 m
+  voices_clean i [] {v = v} e m = elim m [ ]
 
 module _ (bank8 banka : List ℕ) (places : Places) (track : Track) (clean : track_faults bank8 banka places track ≡ []) where
   abbrev ss : List Setting
   ss = settings_of bank8 banka track
 
-  module _ (v : Voice) (in-track : In v track.voices) (used : v.used ≡ true) where
+  module _ (v : Voice) (in-track : In (Some v) track.voices) where
     abbrev names : List Named
     names = named (banks bank8 banka) v.list
 
     clean_names : CleanNames bank8 banka places ss v
     unfolding track_faults
-    clean_names = voices_clean bank8 banka places ss 0 track.voices clean in-track used
+    clean_names = voices_clean bank8 banka places ss 0 track.voices clean in-track
 
     pub no_bad : {place : ℕ} → In (bad place) names → ⊥
     no_bad m = names_good bank8 banka places v.kind clean_names.i ss false names clean_names.none m
@@ -112,12 +111,9 @@ module _ (bank8 banka : List ℕ) (set : Command → List ℕ) where
   in_blocks_lem kind (bad p ∷ names) (there i) m = in_blocks_lem kind names i m
   in_blocks_lem kind [] {place = place} {address = address} x4 m = elim x4 [ ]
 
-  abbrev in_voice : Voice → List ℕ
-  in_voice v = pick v.used (in_blocks set bank8 banka v.kind (named (banks bank8 banka) v.list)) []
-
-  in_voices_lem : (vs : List Voice) {v : Voice} {x : ℕ} → In v vs → In x (in_voice v) → In x (in_voices set bank8 banka vs)
+  in_voices_lem : (vs : List (Option Voice)) {v : Option Voice} {x : ℕ} → In v vs → In x (in_voice set bank8 banka v) → In x (in_voices set bank8 banka vs)
   in_voices_lem (_ ∷ vs) here m = in_left (in_voices set bank8 banka vs) m
-  in_voices_lem (w ∷ vs) (there i) m = in_right (in_voice w) (in_voices_lem vs i m)
+  in_voices_lem (w ∷ vs) (there i) m = in_right (in_voice set bank8 banka w) (in_voices_lem vs i m)
   in_voices_lem [] {v = v} x4 m = elim x4 [ ]
 
 module _ (bank8 banka : List ℕ) (track : Track) where
@@ -125,13 +121,13 @@ module _ (bank8 banka : List ℕ) (track : Track) where
   unfolding transposes_of windows_of
   header_in = (here, here)
 
-  module _ (v : Voice) (in-track : In v track.voices) (used : v.used ≡ true) {place address : ℕ}
+  module _ (v : Voice) (in-track : In (Some v) track.voices) {place address : ℕ}
       (is-named : In (block place address) (named (banks bank8 banka) v.list)) where
     voice_set : (set : Command → List ℕ) {x : ℕ} → In x (in_commands set (straight v.kind (block_of bank8 banka address)).commands) →
         In x (in_voices set bank8 banka track.voices)
     voice_set set m =
         in_voices_lem bank8 banka set track.voices in-track
-        (rw used (in_blocks_lem bank8 banka set v.kind (named (banks bank8 banka) v.list) is-named m))
+        (in_blocks_lem bank8 banka set v.kind (named (banks bank8 banka) v.list) is-named m)
 
     pub transpose_set : {m : ℕ} → In m (in_commands transpose_of (straight v.kind (block_of bank8 banka address)).commands) →
         In m (transposes_of bank8 banka track)
@@ -153,14 +149,13 @@ module _ (bank8 banka : List ℕ) (m : ℕ) where
       in_one (in_commands transpose_of cs) (λ j. all_even cs j) (blocks_even kind names) i
   blocks_even kind (bad p ∷ names) i = blocks_even kind names i
 
-  voices_even : (vs : List Voice) → In m (in_voices transpose_of bank8 banka vs) → is_odd m ≡ false
+  voice_even : (v : Option Voice) → In m (in_voice transpose_of bank8 banka v) → is_odd m ≡ false
+  voice_even None i = none_in i
+  voice_even (Some v) i = blocks_even v.kind (named (banks bank8 banka) v.list) i
+
+  voices_even : (vs : List (Option Voice)) → In m (in_voices transpose_of bank8 banka vs) → is_odd m ≡ false
   voices_even [] i = none_in i
-  voices_even (v ∷ vs) i = in_one (in_voice bank8 banka transpose_of v) one (voices_even vs) i
-    where
-      one : In m (in_voice bank8 banka transpose_of v) → is_odd m ≡ false
-      one =
-          by-test (λ (ms : List ℕ). In m ms → is_odd m ≡ false) v.used
-          (λ _. blocks_even v.kind (named (banks bank8 banka) v.list)) λ _ j. none_in j
+  voices_even (v ∷ vs) i = in_one (in_voice transpose_of bank8 banka v) (voice_even v) (voices_even vs) i
 
 pub transposes_even : (bank8 banka : List ℕ) (track : Track) {m : ℕ} → is_odd track.transpose ≡ false → In m (transposes_of bank8 banka track) →
     is_odd m ≡ false

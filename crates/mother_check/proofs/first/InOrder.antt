@@ -5,8 +5,9 @@ use mathlib.Core.List.{List, [], ◌∷◌}
 use mathlib.Core.Path.{◌≡◌, refl, sym, ◌∙◌}
 use native.Mathlib.Omega.{arith}
 use lib.ListN.{length}
-use Rattle.engine_base.specs.Pick.{pick}
+use Rattle.std.specs.Prelude.{Option, Some, None, Ok, Err}
 use Rattle.engine_base.proofs.Picks.{by-test}
+use Rattle.engine_base.specs.declared.refusal.Refusal.{Refusal}
 use Rattle.mother_format.specs.Bank.{banks, block_of}
 use Rattle.mother_format.specs.Command.{command_at, bytes_of}
 use Rattle.mother_format.specs.Channel.{Source, block_source}
@@ -15,14 +16,14 @@ use Rattle.mother_format.proofs.command.Laws.{stands}
 use Rattle.mother_format.specs.declared.bank.Places.{Places}
 use Rattle.mother_format.specs.declared.command.Kind.{Kind}
 use Rattle.mother_format.specs.declared.command.Command.{Command}
-use Rattle.mother_format.specs.declared.command.Decoded.{Decoded}
+use Rattle.mother_format.specs.Command.{Decoded}
 use Rattle.mother_format.specs.declared.channel.Setting.{Setting}
 use Rattle.mother_format.specs.declared.header.Voice.{Voice}
-use Rattle.mother_format.specs.declared.straight.Finish.{Finish}
+use Rattle.mother_format.specs.Straight.{Finish}
 use Rattle.mother_check.specs.Walk.{Named, block, bad, word_at, marks_at, named_by, named_from, first_spot, unmarked, most_words, named}
 use Rattle.mother_check.specs.Reading.{passed}
 use Rattle.mother_check.specs.Faults.{site_of, command_faults, end_fault, read_faults, entering, block_faults, sized_after, named_faults, channel_faults, voices_faults, first_of}
-use Rattle.mother_check.specs.First.{first_tried, read_first, block_first, named_first, channel_first, voices_first}
+use Rattle.mother_check.specs.First.{first_tried, read_first, block_first, named_first, channel_first, voice_first, voices_first}
 use Rattle.mother_check.proofs.Member.{In, here, there, none_in}
 use Rattle.mother_check.proofs.first.Order.{later_channel, later_place, later_at, then_first_is, each_of}
 use Rattle.mother_check.proofs.first.Offsets.{From, command_stands, end_clean}
@@ -32,13 +33,12 @@ use Rattle.mother_check.specs.declared.reading.Progress.{Progress}
 use Rattle.mother_check.specs.declared.settings.Extremes.{Extremes}
 use Rattle.mother_check.specs.declared.faults.Site.{Site}
 use Rattle.mother_check.specs.declared.faults.Fault.{Fault}
-use Rattle.mother_check.specs.declared.faults.First.{First}
 
 -- what straight reading reads from an offset on
 data Reads (kind : Kind) (bytes : List ℕ) : ℕ → List Placed → Finish → Type 0 where
-  stops : {at number offset : ℕ} → Reads kind bytes at [] (Finish.Refused number offset)
-  ends : {at next : ℕ} {c : Command} → command_at kind bytes at ≡ Decoded.Found c next → is_end c ≡ true → Reads kind bytes at [] (Finish.End at)
-  goes : {at next : ℕ} {c : Placed} {cs : List Placed} {finish : Finish} → command_at kind bytes at ≡ Decoded.Found c.command next →
+  stops : {at offset : ℕ} {refusal : Refusal} → Reads kind bytes at [] (Err (refusal, offset))
+  ends : {at next : ℕ} {c : Command} → command_at kind bytes at ≡ Ok (c, next) → is_end c ≡ true → Reads kind bytes at [] (Ok at)
+  goes : {at next : ℕ} {c : Placed} {cs : List Placed} {finish : Finish} → command_at kind bytes at ≡ Ok (c.command, next) →
       next ≡ at + length (bytes_of c.command) → Reads kind bytes next cs finish → Reads kind bytes at (c ∷ cs) finish
 
 module _ (kind : Kind) (bytes : List ℕ) where
@@ -52,8 +52,8 @@ module _ (kind : Kind) (bytes : List ℕ) where
     where
       by : ((next : ℕ) → ReadsFrom next (straight_from kind bytes more next)) →
           (d : Decoded) → command_at kind bytes at ≡ d → ReadsFrom at (straight_by at (λ next. straight_from kind bytes more next) d)
-      by rest (Decoded.Found c next) e = by-test (ReadsFrom at) (is_end c) (λ i. ends e i) (λ _. goes e (stands kind bytes at e).0 (rest next))
-      by rest (Decoded.Refused number offset) e = stops
+      by rest (Ok (c, next)) e = by-test (ReadsFrom at) (is_end c) (λ i. ends e i) (λ _. goes e (stands kind bytes at e).0 (rest next))
+      by rest (Err (refusal, offset)) e = stops
 
 module _ (source : Source) (site : Site) (ss : List Setting) where
   command_from : (at : ℕ) (sized : Bool) (f : Fault) → In f (command_faults source site ss sized at) → From site at f
@@ -145,13 +145,12 @@ module _ (bank8 banka : List ℕ) (places : Places) (e : Extremes) (ss : List Se
       (λ f m. let g = named_from_lem kind i (sized_after bank8 banka kind address sized) r f m in record { channel = g.channel; from = omega arith })
       f m
 
-  voice_from : (i : ℕ) (v : Voice) (f : Fault) → In f (channel_faults bank8 banka places i ss v) → f.channel ≡ i
+  voice_from : (i : ℕ) (v : Option Voice) (f : Fault) → In f (channel_faults bank8 banka places i ss v) → f.channel ≡ i
   unfolding channel_faults
-  voice_from i v f =
-      by-test (λ fs. In f fs → f.channel ≡ i) v.used
-      (λ _ m. (named_from_lem v.kind i false (named_rising (banks bank8 banka) v.list) f m).channel) (λ _ m. none_in m)
+  voice_from i None f m = none_in m
+  voice_from i (Some v) f m = (named_from_lem v.kind i false (named_rising (banks bank8 banka) v.list) f m).channel
 
-  voices_from : (i : ℕ) (vs : List Voice) (f : Fault) → In f (voices_faults bank8 banka places i ss vs) → i ≤ f.channel
+  voices_from : (i : ℕ) (vs : List (Option Voice)) (f : Fault) → In f (voices_faults bank8 banka places i ss vs) → i ≤ f.channel
   unfolding voices_faults
   voices_from i (v ∷ vs) f m =
       each_of (λ f. i ≤ f.channel) (channel_faults bank8 banka places i ss v) (voices_faults bank8 banka places (i + 1) ss vs)
@@ -179,20 +178,12 @@ module _ (bank8 banka : List ℕ) (places : Places) (e : Extremes) (ss : List Se
         let y = named_from_lem kind i (sized_after bank8 banka kind address sized) r g n in
         later_place f g (x.channel ∙ sym y.channel) (omega arith)
 
-    voice_in_order : (i : ℕ) (v : Voice) →
-        pick v.used (channel_first bank8 banka places v.kind v.list i e) First.Nothing ≡ first_of (channel_faults bank8 banka places i ss v)
+    voice_in_order : (i : ℕ) (v : Option Voice) → voice_first bank8 banka places i e v ≡ first_of (channel_faults bank8 banka places i ss v)
     unfolding channel_first channel_faults first_of
-    voice_in_order i v = by v.used
-      where
-        names : List Named
-        names = named (banks bank8 banka) v.list
+    voice_in_order i None = refl
+    voice_in_order i (Some v) = named_in_order v.kind i false (named_rising (banks bank8 banka) v.list)
 
-        by : (used : Bool) →
-            pick used (named_first bank8 banka places v.kind i e false names) First.Nothing ≡ first_of (pick used (named_faults bank8 banka places v.kind i ss false names) [])
-        by true = named_in_order v.kind i false (named_rising (banks bank8 banka) v.list)
-        by false = refl
-
-    pub first_in_order : (i : ℕ) (vs : List Voice) → voices_first bank8 banka places i e vs ≡ first_of (voices_faults bank8 banka places i ss vs)
+    pub first_in_order : (i : ℕ) (vs : List (Option Voice)) → voices_first bank8 banka places i e vs ≡ first_of (voices_faults bank8 banka places i ss vs)
     unfolding voices_first voices_faults first_of
     first_in_order i [] = refl
     first_in_order i (v ∷ vs) =

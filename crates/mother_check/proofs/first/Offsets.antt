@@ -4,21 +4,21 @@ use mathlib.Core.Bool.{Bool, true, false}
 use mathlib.Core.List.{List, [], ◌∷◌}
 use mathlib.Core.Path.{◌≡◌, refl, sym, subst, ◌∙◌}
 use native.Mathlib.Omega.{arith}
-use borrow.Author.Tests.{eqb-false}
 use lib.Dec.{leb, eqb}
 use lib.ListN.{length, get_or}
+use Rattle.std.specs.Prelude.{Ok, Err, Option, Some, None, Result}
 use Rattle.engine_base.specs.Pick.{pick}
-use Rattle.engine_base.specs.Refusal.{invalid_note, past_data}
+use Rattle.engine_base.specs.declared.refusal.Refusal.{Refusal}
+use Rattle.engine_base.specs.declared.refusal.Refusal.TheVariants.{InvalidNote, PastData}
 use Rattle.engine_base.specs.declared.time.Frames.{Frames}
-use Rattle.engine_base.proofs.Picks.{by-test, false_true}
+use Rattle.engine_base.proofs.Picks.{by-test, false_true, refused_given}
 use Rattle.mother_format.specs.Transpose.{is_odd}
 use Rattle.mother_format.specs.Command.{is_note, rule_of, needed, note_after, timbre_after, command_by, command_at}
-use Rattle.mother_format.specs.Channel.{Source, refused_at, length_at, early_fault, sounding_of, length_played, note_played, played_of, played_by, played_rule, played_at}
+use Rattle.mother_format.specs.Channel.{Source, refused_at, unless_refused, length_at, early_fault, sounding_of, length_played, note_played, played_of, played_by, played_rule, played_at}
 use Rattle.mother_format.specs.Straight.{is_end}
 use Rattle.mother_format.specs.declared.command.Rule.{Rule}
 use Rattle.mother_format.specs.declared.command.Command.{Command}
-use Rattle.mother_format.specs.declared.command.Decoded.{Decoded}
-use Rattle.mother_format.specs.declared.transpose.Sounding.{Sounding}
+use Rattle.mother_format.specs.Command.{Decoded}
 use Rattle.mother_format.specs.declared.channel.Setting.{Setting}
 use Rattle.mother_format.specs.declared.channel.Played.{Played}
 use Rattle.mother_check.specs.Faults.{fault_by, length_by, command_faults}
@@ -29,8 +29,8 @@ use Rattle.mother_check.specs.declared.faults.Fault.{Fault}
 
 -- an offset that what stands at another may be refused under: of what is found one of its own bytes, and of the end none
 abbrev Under : ℕ → Decoded → ℕ → Type 0
-Under at (Decoded.Found c next) offset = (at ≤ offset) × (offset < next) × (is_end c ≡ false)
-Under at (Decoded.Refused number stop) offset = at ≤ offset
+Under at (Ok (c, next)) offset = (at ≤ offset) × (offset < next) × (is_end c ≡ false)
+Under at (Err (refusal, stop)) offset = at ≤ offset
 
 abbrev Refuses : (ℕ → Type 0) → Played → Type 0
 Refuses P Played.End = Unit {0}
@@ -41,7 +41,7 @@ Refuses P (Played.BeginLoop counter next) = Unit {0}
 Refuses P (Played.Length b frames next) = Unit {0}
 Refuses P (Played.Timbre x c next) = Unit {0}
 Refuses P (Played.Note b next) = Unit {0}
-Refuses P (Played.Refused number offset address) = P offset
+Refuses P (Played.Refused refusal offset address) = P offset
 
 module _ (source : Source) (setting : Setting) (frames : Frames) (at : ℕ) where
   abbrev play : Command → ℕ → Played
@@ -53,86 +53,89 @@ module _ (source : Source) (setting : Setting) (frames : Frames) (at : ℕ) wher
   needs : (spot : ℕ) (go : ℕ → Decoded) → at ≤ spot → Fits (go (get_or source.bytes spot 0)) → Fits (needed source.bytes spot go)
   needs spot go h k = by-test Fits (leb (length source.bytes) spot) (λ _. h) (λ _. k)
 
-  length_fits : (l b next : ℕ) → next ≡ at + 2 → Fits (Decoded.Found (Command.Length l b) next)
+  length_fits : (l b next : ℕ) → next ≡ at + 2 → Fits (Ok (Command.Length l b, next))
   length_fits l b next e = from (sounding_of source.kind b setting.transpose)
     where
-      from : (s : Sounding) →
-          Refuses (Under at (Decoded.Found (Command.Length l b) next))
+      from : (s : Option ℕ) →
+          Refuses (Under at (Ok (Command.Length l b, next)))
           (length_played source.start (at + 1) (record { count = length_at source.bank source.places.note_lengths setting.window l }) next s)
-      from (Sounding.Byte sound) = tt
-      from Sounding.Outside = (omega arith, omega arith, refl)
+      from (Some sound) = tt
+      from None = (omega arith, omega arith, refl)
 
-  note_fits : (b next : ℕ) → next ≡ at + 1 → Fits (Decoded.Found (Command.Note b) next)
+  note_fits : (b next : ℕ) → next ≡ at + 1 → Fits (Ok (Command.Note b, next))
   note_fits b next e = from (sounding_of source.kind b setting.transpose)
     where
-      from : (s : Sounding) → Refuses (Under at (Decoded.Found (Command.Note b) next)) (note_played source.start at frames next s)
-      from (Sounding.Byte sound) =
-          by-test (Refuses (Under at (Decoded.Found (Command.Note b) next))) (eqb frames.count 0) (λ _. (omega arith, omega arith, refl)) (λ _. tt)
-      from Sounding.Outside = (omega arith, omega arith, refl)
+      from : (s : Option ℕ) → Refuses (Under at (Ok (Command.Note b, next))) (note_played source.start at frames next s)
+      from (Some sound) =
+          by-test (Refuses (Under at (Ok (Command.Note b, next)))) (eqb frames.count 0) (λ _. (omega arith, omega arith, refl)) (λ _. tt)
+      from None = (omega arith, omega arith, refl)
 
-  rule_fits : (rule : Rule) → Fits (command_by source.kind source.bytes at rule)
+  rule_fits : (rule : Result Rule Refusal) → Fits (command_by source.kind source.bytes at rule)
   unfolding note_after timbre_after
-  rule_fits Rule.End = tt
-  rule_fits Rule.Transpose =
-      needs (at + 1) (λ m. Decoded.Found (Command.Transpose m) (at + 1 + 1)) (omega arith)
-      (by-test (Refuses (Under at (Decoded.Found (Command.Transpose (get_or source.bytes (at + 1) 0)) (at + 1 + 1)))) (is_odd (get_or source.bytes (at + 1) 0))
+  rule_fits (Ok Rule.End) = tt
+  rule_fits (Ok Rule.Transpose) =
+      needs (at + 1) (λ m. Ok (Command.Transpose m, at + 1 + 1)) (omega arith)
+      (by-test (Refuses (Under at (Ok (Command.Transpose (get_or source.bytes (at + 1) 0), at + 1 + 1)))) (is_odd (get_or source.bytes (at + 1) 0))
       (λ _. (omega arith, omega arith, refl)) (λ _. tt))
-  rule_fits Rule.Window = needs (at + 1) (λ t. Decoded.Found (Command.Window t) (at + 1 + 1)) (omega arith) tt
-  rule_fits Rule.EndLoop = tt
-  rule_fits (Rule.Length l) =
-      needs (at + 1) (λ b. pick (is_note source.kind b) (Decoded.Found (Command.Length l b) (at + 1 + 1)) (Decoded.Refused invalid_note (at + 1))) (omega arith)
+  rule_fits (Ok Rule.Window) = needs (at + 1) (λ t. Ok (Command.Window t, at + 1 + 1)) (omega arith) tt
+  rule_fits (Ok Rule.EndLoop) = tt
+  rule_fits (Ok (Rule.Length l)) =
+      needs (at + 1) (λ b. pick (is_note source.kind b) (Ok (Command.Length l b, at + 1 + 1)) (Err (InvalidNote, at + 1))) (omega arith)
       (by-test Fits (is_note source.kind (get_or source.bytes (at + 1) 0)) (λ _. length_fits l _ _ (omega arith)) (λ _. omega arith))
-  rule_fits (Rule.BeginLoop n) = tt
-  rule_fits Rule.Timbre =
-      needs (at + 1) (λ x. needed source.bytes (at + 1 + 1) (λ c. Decoded.Found (Command.Timbre x c) (at + 1 + 1 + 1))) (omega arith)
-      (needs (at + 1 + 1) (λ c. Decoded.Found (Command.Timbre (get_or source.bytes (at + 1) 0) c) (at + 1 + 1 + 1)) (omega arith) tt)
-  rule_fits Rule.Note = note_fits _ _ refl
-  rule_fits (Rule.Invalid number) = omega arith
+  rule_fits (Ok (Rule.BeginLoop n)) = tt
+  rule_fits (Ok Rule.Timbre) =
+      needs (at + 1) (λ x. needed source.bytes (at + 1 + 1) (λ c. Ok (Command.Timbre x c, at + 1 + 1 + 1))) (omega arith)
+      (needs (at + 1 + 1) (λ c. Ok (Command.Timbre (get_or source.bytes (at + 1) 0) c, at + 1 + 1 + 1)) (omega arith) tt)
+  rule_fits (Ok Rule.Note) = note_fits _ _ refl
+  rule_fits (Err refusal) = omega arith
 
   abbrev HereUnder : Decoded → Type 0
   HereUnder d = Under at d at
 
   -- 12, 13, 6 and 7 are of BL and 9f
-  early_under : (rule : Rule) → (early_fault source.bank source.places source.kind source.bytes setting.window at rule ≡ 0 → ⊥) →
+  early_under : (rule : Result Rule Refusal) → (refusal : Refusal) → early_fault source.bank source.places source.kind source.bytes setting.window at rule ≡ Err refusal →
       HereUnder (command_by source.kind source.bytes at rule)
   unfolding note_after timbre_after
-  early_under Rule.End z = absurd (z refl)
-  early_under Rule.Transpose z = absurd (z refl)
-  early_under Rule.Window z = absurd (z refl)
-  early_under Rule.EndLoop z = absurd (z refl)
-  early_under (Rule.Length l) z =
+  early_under (Ok Rule.End) refusal z = absurd (refused_given refusal tt (sym z))
+  early_under (Ok Rule.Transpose) refusal z = absurd (refused_given refusal tt (sym z))
+  early_under (Ok Rule.Window) refusal z = absurd (refused_given refusal tt (sym z))
+  early_under (Ok Rule.EndLoop) refusal z = absurd (refused_given refusal tt (sym z))
+  early_under (Ok (Rule.Length l)) refusal z =
       by-test HereUnder (leb (length source.bytes) (at + 1)) (λ _. omega arith) λ _.
       by-test HereUnder (is_note source.kind (get_or source.bytes (at + 1) 0)) (λ _. (omega arith, omega arith, refl)) (λ _. omega arith)
-  early_under (Rule.BeginLoop n) z = absurd (z refl)
-  early_under Rule.Timbre z =
+  early_under (Ok (Rule.BeginLoop n)) refusal z = absurd (refused_given refusal tt (sym z))
+  early_under (Ok Rule.Timbre) refusal z =
       by-test HereUnder (leb (length source.bytes) (at + 1)) (λ _. omega arith) λ _.
       by-test HereUnder (leb (length source.bytes) (at + 1 + 1)) (λ _. omega arith) (λ _. (omega arith, omega arith, refl))
-  early_under Rule.Note z = absurd (z refl)
-  early_under (Rule.Invalid number) z = absurd (z refl)
+  early_under (Ok Rule.Note) refusal z = absurd (refused_given refusal tt (sym z))
+  early_under (Err other) refusal z = absurd (refused_given refusal tt (sym z))
 
-  rule_under : (rule : Rule) → Refuses (Under at (command_by source.kind source.bytes at rule)) (played_rule source setting frames at rule)
+  rule_under : (rule : Result Rule Refusal) → Refuses (Under at (command_by source.kind source.bytes at rule)) (played_rule source setting frames at rule)
   unfolding played_rule
-  rule_under rule =
-      by-test (Refuses (Under at (command_by source.kind source.bytes at rule)))
-      (eqb (early_fault source.bank source.places source.kind source.bytes setting.window at rule) 0)
-      (λ _. rule_fits rule) (λ z. early_under rule (eqb-false _ _ z))
+  rule_under rule = by (early_fault source.bank source.places source.kind source.bytes setting.window at rule) refl
+    where
+      by : (x : Result (Unit {0}) Refusal) → early_fault source.bank source.places source.kind source.bytes setting.window at rule ≡ x →
+          Refuses (Under at (command_by source.kind source.bytes at rule))
+          (unless_refused source.start at x (played_by source.start play (command_by source.kind source.bytes at rule)))
+      by (Ok none) e = rule_fits rule
+      by (Err refusal) e = early_under rule refusal e
 
   played_under : Refuses (Under at (command_at source.kind source.bytes at)) (played_at source setting frames at)
   unfolding command_at played_at
   played_under = by (leb (length source.bytes) at)
     where
-      rule : Rule
+      rule : Result Rule Refusal
       rule = rule_of source.kind (get_or source.bytes at 0)
 
       by : (past : Bool) →
-          Refuses (Under at (pick past (Decoded.Refused past_data at) (command_by source.kind source.bytes at rule)))
-          (pick past (refused_at source.start past_data at) (played_rule source setting frames at rule))
+          Refuses (Under at (pick past (Err (PastData, at)) (command_by source.kind source.bytes at rule)))
+          (pick past (refused_at source.start PastData at) (played_rule source setting frames at rule))
       by true = omega arith
       by false = rule_under rule
 
 under_from : (at : ℕ) (d : Decoded) (offset : ℕ) → Under at d offset → at ≤ offset
-under_from at (Decoded.Found c next) offset u = u.0
-under_from at (Decoded.Refused number stop) offset u = u
+under_from at (Ok (c, next)) offset u = u.0
+under_from at (Err (refusal, stop)) offset u = u
 
 pub record From (site : Site) (at : ℕ) (f : Fault) : Type 0 where
   pub channel : f.channel ≡ site.channel
@@ -141,14 +144,14 @@ pub record From (site : Site) (at : ℕ) (f : Fault) : Type 0 where
 
 module _ (source : Source) (site : Site) (at : ℕ) where
   abbrev Finds : Command → ℕ → Type 0
-  Finds c next = command_at source.kind source.bytes at ≡ Decoded.Found c next
+  Finds c next = command_at source.kind source.bytes at ≡ Ok (c, next)
 
   pub record Stands (f : Fault) : Type 0 where
     pub from : From site at f
     pub before : {c : Command} {next : ℕ} → Finds c next → (f.at < next) × (is_end c ≡ false)
 
   by_stands : (f : Fault) (played : Played) → Refuses (Under at (command_at source.kind source.bytes at)) played → In f (fault_by site played) → Stands f
-  by_stands f (Played.Refused number offset address) u here = record {
+  by_stands f (Played.Refused refusal offset address) u here = record {
     from = record { channel = refl; place = refl; offset = under_from at (command_at source.kind source.bytes at) offset u };
     before = λ e. let (low, high, more) = subst (λ d. Under at d offset) e u in (high, more);
   }
@@ -160,7 +163,7 @@ module _ (source : Source) (site : Site) (at : ℕ) where
   by_stands f (Played.Length _ _ _) u x10 = elim x10 [ ]
   by_stands f (Played.Timbre _ _ _) u x11 = elim x11 [ ]
   by_stands f (Played.Note _ _) u x11 = elim x11 [ ]
-  by_stands f (Played.Refused number offset address) u (there x13) = elim x13 [ ]
+  by_stands f (Played.Refused refusal offset address) u (there x13) = elim x13 [ ]
 
   pub command_stands : (ss : List Setting) (sized : Bool) (f : Fault) → In f (command_faults source site ss sized at) → Stands f
   unfolding command_faults

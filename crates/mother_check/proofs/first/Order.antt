@@ -6,13 +6,13 @@ use mathlib.Core.Path.{◌≡◌, refl, sym, ap, subst, ◌∙◌}
 use native.Mathlib.Omega.{arith}
 use borrow.Author.Tests.{ltb-true, lt-ltb, le-ltb}
 use lib.Dec.{ltb}
+use Rattle.std.specs.Prelude.{Option, Some, None}
 use Rattle.engine_base.specs.Pick.{pick}
 use Rattle.engine_base.proofs.Picks.{by-test, false_true}
 use Rattle.mother_check.specs.Faults.{order, position_in, key_of, is_lower, sooner, first_of}
 use Rattle.mother_check.specs.First.{then_first}
 use Rattle.mother_check.proofs.Member.{In, here, there, in_one}
 use Rattle.mother_check.specs.declared.faults.Fault.{Fault}
-use Rattle.mother_check.specs.declared.faults.First.{First}
 
 -- where two keys first differ
 data Below : List ℕ → List ℕ → Type 0 where
@@ -45,21 +45,21 @@ module _ (f g : Fault) where
   pub later_at : f.channel ≡ g.channel → f.place ≡ g.place → f.at < g.at → is_lower (key_of f) (key_of g) ≡ true
   later_at c p h = lower {ms = key_of f} {ns = key_of g} (by_rest c (by_rest p (by_first h)))
 
-  pub later_number : f.channel ≡ g.channel → f.place ≡ g.place → f.at ≡ g.at → position_in order f.number < position_in order g.number →
+  pub later_number : f.channel ≡ g.channel → f.place ≡ g.place → f.at ≡ g.at → position_in order f.refusal < position_in order g.refusal →
       is_lower (key_of f) (key_of g) ≡ true
   later_number c p a h = lower {ms = key_of f} {ns = key_of g} (by_rest c (by_rest p (by_rest a (by_first h))))
 
   pub never_both : is_lower (key_of f) (key_of g) ≡ true → is_lower (key_of g) (key_of f) ≡ false
   never_both h = lower_once (key_of f) (key_of g) h
 
-pub first_found_in : (fs : List Fault) (g : Fault) → first_of fs ≡ First.Fault g → In g fs
+pub first_found_in : (fs : List Fault) (g : Fault) → first_of fs ≡ Some g → In g fs
 unfolding first_of
 first_found_in [] g e = let z : ◌≡◌ {A = ℕ} 0 1 = cc in absurd (omega arith)
 first_found_in (f ∷ fs) g e = from (first_found_in fs) (first_of fs) refl e
   where
-    from : ((x : Fault) → first_of fs ≡ First.Fault x → In x fs) → (r : First) → first_of fs ≡ r → sooner f r ≡ First.Fault g → In g (f ∷ fs)
-    from rest First.Nothing q e = let same : f ≡ g = cc in subst (λ x. In x (f ∷ fs)) same here
-    from rest (First.Fault x) q e =
+    from : ((x : Fault) → first_of fs ≡ Some x → In x fs) → (r : Option Fault) → first_of fs ≡ r → sooner f r ≡ Some g → In g (f ∷ fs)
+    from rest None q e = let same : f ≡ g = cc in subst (λ x. In x (f ∷ fs)) same here
+    from rest (Some x) q e =
         let same : pick (is_lower (key_of x) (key_of f)) x f ≡ g = cc in
         subst (λ y. In y (f ∷ fs)) same (by-test (λ y. In y (f ∷ fs)) (is_lower (key_of x) (key_of f)) (λ _. there (rest x q)) (λ _. here))
 
@@ -68,21 +68,21 @@ pub data SameOrLater (f g : Fault) : Type 0 where
   later : is_lower (key_of f) (key_of g) ≡ true → SameOrLater f g
 
 -- of a list that has f, where every other is the same or later
-pub first_is : (f : Fault) (fs : List Fault) → In f fs → ((g : Fault) → In g fs → SameOrLater f g) → first_of fs ≡ First.Fault f
+pub first_is : (f : Fault) (fs : List Fault) → In f fs → ((g : Fault) → In g fs → SameOrLater f g) → first_of fs ≡ Some f
 unfolding first_of
 first_is f (x ∷ fs) here k = from (first_of fs) refl
   where
-    from : (r : First) → first_of fs ≡ r → sooner f r ≡ First.Fault f
-    from First.Nothing q = refl
-    from (First.Fault g) q = by (k g (there (first_found_in fs g q)))
+    from : (r : Option Fault) → first_of fs ≡ r → sooner f r ≡ Some f
+    from None q = refl
+    from (Some g) q = by (k g (there (first_found_in fs g q)))
       where
-        by : SameOrLater f g → sooner f (First.Fault g) ≡ First.Fault f
-        by (same e) = by-test (λ x. First.Fault x ≡ First.Fault f) (is_lower (key_of g) (key_of f)) (λ _. ap First.Fault e) (λ _. refl)
+        by : SameOrLater f g → sooner f (Some g) ≡ Some f
+        by (same e) = by-test (λ x. Some x ≡ Some f) (is_lower (key_of g) (key_of f)) (λ _. ap Some e) (λ _. refl)
         by (later h) = rw (never_both f g h)
 first_is f (x ∷ fs) (there m) k = ap (sooner x) (first_is f fs m (λ g n. k g (there n))) ∙ by (k x here)
   where
-    by : SameOrLater f x → sooner x (First.Fault f) ≡ First.Fault f
-    by (same e) = by-test (λ y. First.Fault y ≡ First.Fault f) (is_lower (key_of f) (key_of x)) (λ _. refl) (λ _. ap First.Fault e)
+    by : SameOrLater f x → sooner x (Some f) ≡ Some f
+    by (same e) = by-test (λ y. Some y ≡ Some f) (is_lower (key_of f) (key_of x)) (λ _. refl) (λ _. ap Some e)
     by (later h) = rw h
 first_is f [] x'' k = elim x'' [ ]
 
@@ -94,13 +94,13 @@ first_append [] gs k = refl
 first_append (f ∷ fs) gs k =
     ap (sooner f) (first_append fs gs (λ x g m n. k x g (there m) n)) ∙ from (first_of fs) (first_of gs) refl
   where
-    from : (r s : First) → first_of gs ≡ s → sooner f (then_first r s) ≡ then_first (sooner f r) s
-    from (First.Fault x) s q = refl
-    from First.Nothing First.Nothing q = refl
-    from First.Nothing (First.Fault g) q = rw (k f g here (first_found_in gs g q))
+    from : (r s : Option Fault) → first_of gs ≡ s → sooner f (then_first r s) ≡ then_first (sooner f r) s
+    from (Some x) s q = refl
+    from None None q = refl
+    from None (Some g) q = rw (k f g here (first_found_in gs g q))
 
 -- as the code looks: the first of one list, else of the next
-pub then_first_is : (fs gs : List Fault) (r s : First) → r ≡ first_of fs → s ≡ first_of gs → ((f g : Fault) → In f fs → In g gs → is_lower (key_of f) (key_of g) ≡ true) →
+pub then_first_is : (fs gs : List Fault) (r s : Option Fault) → r ≡ first_of fs → s ≡ first_of gs → ((f g : Fault) → In f fs → In g gs → is_lower (key_of f) (key_of g) ≡ true) →
     then_first r s ≡ first_of (fs ++ gs)
 then_first_is fs gs r s p q k = rw (p, q) (sym (first_append fs gs (λ f g m n. never_both f g (k f g m n))))
 

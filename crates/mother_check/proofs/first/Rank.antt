@@ -6,13 +6,13 @@ use native.Mathlib.Omega.{arith}
 use borrow.Author.Tests.{ltb-true, ltb-false, lt-ltb, le-ltb, leb-true, leb-false}
 use lib.Dec.{leb, ltb, eqb}
 use lib.IntN.{pos, negsuc, ◌+ℤ◌}
+use Rattle.std.specs.Prelude.{Some}
 use Rattle.engine_base.specs.Pick.{pick}
 use Rattle.engine_base.proofs.Picks.{by-test, false_true}
 use Rattle.mother_format.specs.Transpose.{amount_of, rest_key, last_key, in_table, transposed_of}
 use Rattle.mother_format.specs.Channel.{sounding_of}
 use Rattle.mother_format.specs.declared.command.Kind.{Kind}
 use Rattle.mother_format.specs.declared.command.Kind.TheVariants.{Square, Triangle, Noise}
-use Rattle.mother_format.specs.declared.transpose.Sounding.TheVariants.{Byte}
 use Rattle.mother_check.specs.Extremes.{rank_of}
 use Rattle.mother_check.specs.First.{is_outside}
 
@@ -47,7 +47,7 @@ module _ (b m : ℕ) (h : m ≤ 255) where
   unfolding transposed_of
   key_outside = by (eqb b rest_key)
     where
-      by : (t : Bool) → is_outside (pick t (Byte rest_key) (in_table (pos b +ℤ amount_of m))) ≡ pick t false (is_beyond (b + rank_of m))
+      by : (t : Bool) → is_outside (pick t (Some rest_key) (in_table (pos b +ℤ amount_of m))) ≡ pick t false (is_beyond (b + rank_of m))
       by true = refl
       by false = sum_outside
 

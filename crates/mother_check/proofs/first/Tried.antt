@@ -6,6 +6,7 @@ use mathlib.Core.Path.{◌≡◌, refl, sym, subst, ◌∙◌}
 use native.Mathlib.Omega.{arith}
 use lib.Dec.{eqb}
 use lib.ListN.{get_or}
+use Rattle.std.specs.Prelude.{Option, Some, None}
 use Rattle.engine_base.specs.Pick.{pick}
 use Rattle.engine_base.proofs.Picks.{by-test}
 use Rattle.mother_format.specs.Bank.{banks}
@@ -25,7 +26,6 @@ use Rattle.mother_check.proofs.first.Tests.{NoSooner, same_first, when, Follows,
 use Rattle.mother_check.specs.declared.settings.Extremes.{Extremes}
 use Rattle.mother_check.specs.declared.faults.Site.{Site}
 use Rattle.mother_check.specs.declared.faults.Fault.{Fault}
-use Rattle.mother_check.specs.declared.faults.First.{First}
 
 module _ (m : ℕ) where
   with_window_lem : (ws : List ℕ) {s : Setting} → In s (map (λ t. record { transpose = m; window = t }) ws) → (s.transpose ≡ m) × In s.window ws
@@ -40,7 +40,7 @@ setting_of_lem (m ∷ ms) ws {s} i =
     (λ j. let (k, n) = setting_of_lem ms ws j in (there k, n)) i
 setting_of_lem [] ws {s = s} i = elim i [ ]
 
-none_first : (fs : List Fault) → ((f : Fault) → In f fs → ⊥) → first_of fs ≡ First.Nothing
+none_first : (fs : List Fault) → ((f : Fault) → In f fs → ⊥) → first_of fs ≡ None
 unfolding first_of
 none_first [] k = refl
 none_first (f ∷ fs) k = absurd (k f here)
@@ -49,18 +49,18 @@ module _ (source : Source) (site : Site) (sized : Bool) (at : ℕ) where
   abbrev played : Setting → Played
   played s = played_at source s (length_by sized) at
 
-  abbrev found : Setting → First
+  abbrev found : Setting → Option Fault
   found s = first_of (fault_by site (played s))
 
-  faults_of : (ss : List Setting) {s : Setting} {f : Fault} → In s ss → found s ≡ First.Fault f → In f (command_faults source site ss sized at)
+  faults_of : (ss : List Setting) {s : Setting} {f : Fault} → In s ss → found s ≡ Some f → In f (command_faults source site ss sized at)
   unfolding command_faults
   faults_of (s ∷ ss) {f = f} here e = in_left (command_faults source site ss sized at) (first_found_in _ f e)
   faults_of (s ∷ ss) (there i) e = in_right (fault_by site (played s)) (faults_of ss i e)
   faults_of [] {s = s} {f = f} x'' e = elim x'' [ ]
 
-  only : (p : Played) {f : Fault} → In f (fault_by site p) → first_of (fault_by site p) ≡ First.Fault f
+  only : (p : Played) {f : Fault} → In f (fault_by site p) → first_of (fault_by site p) ≡ Some f
   unfolding first_of
-  only (Played.Refused number offset address) here = refl
+  only (Played.Refused refusal offset address) here = refl
   only Played.End {f = f} x' = elim x' [ ]
   only (Played.Transpose _ _) {f = f} x4 = elim x4 [ ]
   only (Played.Window _ _) {f = f} x5 = elim x5 [ ]
@@ -69,12 +69,12 @@ module _ (source : Source) (site : Site) (sized : Bool) (at : ℕ) where
   only (Played.Length _ _ _) {f = f} x9 = elim x9 [ ]
   only (Played.Timbre _ _ _) {f = f} x10 = elim x10 [ ]
   only (Played.Note _ _) {f = f} x10 = elim x10 [ ]
-  only (Played.Refused number offset address) {f = f} (there x12) = elim x12 [ ]
+  only (Played.Refused refusal offset address) {f = f} (there x12) = elim x12 [ ]
 
   record From (ss : List Setting) (f : Fault) : Type 0 where
     setting : Setting
     is_in : In setting ss
-    finds : found setting ≡ First.Fault f
+    finds : found setting ≡ Some f
 
   from_faults : (ss : List Setting) {f : Fault} → In f (command_faults source site ss sized at) → From ss f
   unfolding command_faults
@@ -88,52 +88,52 @@ module _ (source : Source) (site : Site) (sized : Bool) (at : ℕ) where
       first_of (command_faults source site ss sized at) ≡ found s
   first_by ss s i k = by (found s) refl k
     where
-      by : (r : First) → found s ≡ r → ((x : Setting) → In x ss → NoSooner (found x) r) → first_of (command_faults source site ss sized at) ≡ r
-      by First.Nothing e k = none_first _ λ g j. let r = from_faults ss j in subst (λ x. NoSooner x First.Nothing) r.finds (k r.setting r.is_in)
-      by (First.Fault f) e k =
+      by : (r : Option Fault) → found s ≡ r → ((x : Setting) → In x ss → NoSooner (found x) r) → first_of (command_faults source site ss sized at) ≡ r
+      by None e k = none_first _ λ g j. let r = from_faults ss j in subst (λ x. NoSooner x None) r.finds (k r.setting r.is_in)
+      by (Some f) e k =
           first_is f _ (faults_of ss i e) λ g j.
-          let r = from_faults ss j in subst (λ x. NoSooner x (First.Fault f)) r.finds (k r.setting r.is_in)
+          let r = from_faults ss j in subst (λ x. NoSooner x (Some f)) r.finds (k r.setting r.is_in)
 
-then_later : (a b c d : First) → NoSooner a c → NoSooner b d → Follows b c → NoSooner (then_first a b) (then_first c d)
-then_later First.Nothing b First.Nothing d p q r = q
-then_later First.Nothing b (First.Fault f) d p q r = r
-then_later (First.Fault g) b First.Nothing d p q r = absurd p
-then_later (First.Fault g) b (First.Fault f) d p q r = p
+then_later : (a b c d : Option Fault) → NoSooner a c → NoSooner b d → Follows b c → NoSooner (then_first a b) (then_first c d)
+then_later None b None d p q r = q
+then_later None b (Some f) d p q r = r
+then_later (Some g) b None d p q r = absurd p
+then_later (Some g) b (Some f) d p q r = p
 
-then_follows : (a b c : First) → Follows a c → Follows b c → Follows (then_first a b) c
-then_follows First.Nothing b c p q = q
-then_follows (First.Fault f) b c p q = p
+then_follows : (a b c : Option Fault) → Follows a c → Follows b c → Follows (then_first a b) c
+then_follows None b c p q = q
+then_follows (Some f) b c p q = p
 
-when_follows : (t : Bool) (a c : First) → Follows a c → Follows (when t a) c
+when_follows : (t : Bool) (a c : Option Fault) → Follows a c → Follows (when t a) c
 when_follows true a c p = p
 when_follows false a c p = nothing_follows c
 
-follows_when : (t : Bool) (a c : First) → Follows a c → Follows a (when t c)
+follows_when : (t : Bool) (a c : Option Fault) → Follows a c → Follows a (when t c)
 follows_when true a c p = p
 follows_when false a c p = tt
 
-when_later : (a : First) (t u : Bool) → (t ≡ true → u ≡ true) → NoSooner (when t a) (when u a)
+when_later : (a : Option Fault) (t u : Bool) → (t ≡ true → u ≡ true) → NoSooner (when t a) (when u a)
 when_later a true u k = rw (k refl) (same_first a)
 when_later a false u k = tt
 
-when_nothing : (t : Bool) → when t First.Nothing ≡ First.Nothing
+when_nothing : (t : Bool) → when t None ≡ None
 when_nothing true = refl
 when_nothing false = refl
 
-abbrev in_turn : First → First → First → Bool → ℕ → First
+abbrev in_turn : Option Fault → Option Fault → Option Fault → Bool → ℕ → Option Fault
 in_turn early sound last outside n = then_first early (then_first (when outside sound) (when (eqb n 0) last))
 
 -- the three tries, as one under the better transpose
-tries : (early sound last : First) (low high sized : Bool) →
-    then_first (in_turn early sound last low 1) (then_first (in_turn early sound last high 1) (pick sized First.Nothing (in_turn early sound last low 0)))
+tries : (early sound last : Option Fault) (low high sized : Bool) →
+    then_first (in_turn early sound last low 1) (then_first (in_turn early sound last high 1) (pick sized None (in_turn early sound last low 0)))
     ≡ in_turn early sound last (pick low true high) (pick sized 1 0)
-tries (First.Fault f) sound last low high sized = refl
-tries First.Nothing First.Nothing last low high true = simp when_nothing
-tries First.Nothing First.Nothing last low high false = simp when_nothing
-tries First.Nothing (First.Fault f) last true high sized = refl
-tries First.Nothing (First.Fault f) last false true sized = refl
-tries First.Nothing (First.Fault f) last false false true = refl
-tries First.Nothing (First.Fault f) last false false false = refl
+tries (Some f) sound last low high sized = refl
+tries None None last low high true = simp when_nothing
+tries None None last low high false = simp when_nothing
+tries None (Some f) last true high sized = refl
+tries None (Some f) last false true sized = refl
+tries None (Some f) last false false true = refl
+tries None (Some f) last false false false = refl
 
 module _ (source : Source) (ms ws : List ℕ) (e : Extremes) (spans : Spans source.bank source.places.note_lengths ms ws e)
     (bytes : (m : ℕ) → In m ms → m ≤ 255) (site : Site) (sized : Bool) (at : ℕ) where
@@ -145,7 +145,7 @@ module _ (source : Source) (ms ws : List ℕ) (e : Extremes) (spans : Spans sour
   kept_in = spans.window_in (get_or source.bytes at 0 % 16) (omega arith)
 
   module _ (t : Tests ms ws e source site at (λ s f. played_at source s f at)) where
-    abbrev by_tests : ℕ → ℕ → ℕ → First
+    abbrev by_tests : ℕ → ℕ → ℕ → Option Fault
     by_tests m w n = in_turn (t.early w) t.sound t.last (t.outside m) n
 
     best : ℕ
@@ -174,13 +174,13 @@ module _ (source : Source) (ms ws : List ℕ) (e : Extremes) (spans : Spans sour
         (when_follows (t.outside m) t.sound (t.early kept) (t.sound_later kept))
         (when_follows (eqb n 0) t.last (t.early kept) (t.last_later kept)))
       where
-        sound : First
+        sound : Option Fault
         sound = when (t.outside m) t.sound
 
-        best_sound : First
+        best_sound : Option Fault
         best_sound = when (t.outside best) t.sound
 
-        last : First
+        last : Option Fault
         last = when (eqb n 0) t.last
 
     tried_is : (m n : ℕ) → tried_at source site m kept n at ≡ by_tests m kept n

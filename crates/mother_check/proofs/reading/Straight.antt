@@ -4,12 +4,12 @@ use mathlib.Core.List.{List, []}
 use mathlib.Core.Path.{◌≡◌}
 use native.Mathlib.Omega.{arith}
 use lib.ListN.{length}
-use Rattle.engine_base.specs.Refusal.{past_data}
+use Rattle.std.specs.Prelude.{Err}
+use Rattle.engine_base.specs.declared.refusal.Refusal.TheVariants.{PastData}
 use Rattle.mother_format.specs.Command.{command_at}
 use Rattle.mother_format.specs.Straight.{Straight, straight_by, straight_from}
 use Rattle.mother_format.specs.declared.command.Kind.{Kind}
-use Rattle.mother_format.specs.declared.command.Decoded.{Decoded}
-use Rattle.mother_format.specs.declared.straight.Finish.{Finish}
+use Rattle.mother_format.specs.Command.{Decoded}
 
 module _ (kind : Kind) (bytes : List ℕ) (n at : ℕ) where
   -- after n commands, from an offset on
@@ -23,6 +23,6 @@ module _ (kind : Kind) (bytes : List ℕ) (n at : ℕ) where
       let less : length bytes - n ≡ suc (length bytes - (n + 1)) = omega arith in
       rw (less, e)
 
-  pub rest_none : length bytes ≤ n → rest_from ≡ record { commands = []; finish = Finish.Refused past_data at }
+  pub rest_none : length bytes ≤ n → rest_from ≡ record { commands = []; finish = Err (PastData, at) }
   unfolding straight_from
   rest_none h = let none : length bytes - n ≡ 0 = omega arith in rw none

@@ -6,6 +6,7 @@ use mathlib.Core.Path.{◌≡◌, refl, sym, ap, subst, ◌∙◌}
 use native.Mathlib.Omega.{arith}
 use lib.Dec.{eqb}
 use lib.ListN.{length}
+use Rattle.std.specs.Prelude.{Ok, Some}
 use Rattle.engine_base.specs.declared.time.Frames.{Frames}
 use Rattle.engine_base.proofs.Picks.{by-test, false_true}
 use Rattle.engine_base.proofs.loops.Bound.{counter_bound}
@@ -21,8 +22,6 @@ use Rattle.mother_format.proofs.channel.Stretch.{Onward, on_past, on_begin, on_e
 use Rattle.mother_format.specs.declared.bank.Places.{Places}
 use Rattle.mother_format.specs.declared.command.Kind.{Kind}
 use Rattle.mother_format.specs.declared.command.Command.{Command}
-use Rattle.mother_format.specs.declared.command.Decoded.{Decoded}
-use Rattle.mother_format.specs.declared.transpose.Sounding.{Sounding}
 use Rattle.mother_format.specs.declared.channel.Cursor.{Cursor}
 use Rattle.mother_format.specs.declared.channel.Setting.{Setting}
 use Rattle.mother_format.specs.declared.channel.Played.{Played}
@@ -40,26 +39,14 @@ use Rattle.mother_check.specs.Reading.{passed}
 use Rattle.mother_check.specs.declared.reading.Progress.{Progress}
 use Rattle.mother_check.proofs.Member.{In}
 use Rattle.mother_check.proofs.clean.Visits.{Visits, at_next, Unrefused}
-use Rattle.mother_check.proofs.clean.Laws.{
-  clean_plays,
-  clean_ends,
-  note_is,
-  length_note,
-  longer,
-  timbre_fits_lem,
-  length_some,
-  transpose_in,
-  window_in,
-  setting_in,
-  sounds_fit,
-}
+use Rattle.mother_check.proofs.clean.Laws.{clean_plays, clean_ends, note_is, length_note, longer, timbre_fits_lem, length_some, transpose_in, window_in, setting_in, sounds_fit}
 use Rattle.mother_check.proofs.clean.Settings.{transpose_set, window_set, transposes_even}
 use Rattle.mother_check.proofs.run.Standing.{Stays, Seen, Sets, Reads, moved, Stands}
 use Rattle.mother_check.proofs.run.Reading.{snoc, most, reserve, Long, with_length, without_length, Reading, AtWord, Before, StepHolds}
 
 -- past a command that is neither a note nor the end
 seen_on : {kind : Kind} {bytes : List ℕ} {begun sized : Bool} {at next : ℕ} (s : Seen kind bytes begun sized at) {c : Command} →
-    command_at kind bytes at ≡ Decoded.Found c next → is_end c ≡ false → passed s.progress c ≡ s.progress →
+    command_at kind bytes at ≡ Ok (c, next) → is_end c ≡ false → passed s.progress c ≡ s.progress →
     Seen kind bytes begun sized next
 seen_on s e t same = record {
   progress = s.progress;
@@ -69,7 +56,7 @@ seen_on s e t same = record {
 
 -- past a note
 seen_noted : {kind : Kind} {bytes : List ℕ} {begun sized : Bool} {at next : ℕ} → Seen kind bytes begun sized at → {c : Command} →
-    command_at kind bytes at ≡ Decoded.Found c next → is_end c ≡ false → Seen kind bytes true sized next
+    command_at kind bytes at ≡ Ok (c, next) → is_end c ≡ false → Seen kind bytes true sized next
 seen_noted s e t = record { progress = _; stays = tt; visits = at_next s.visits e t }
 
 seen_any : {kind : Kind} {bytes : List ℕ} {begun sized : Bool} {at : ℕ} → Seen kind bytes begun sized at → Seen kind bytes true sized at
@@ -81,7 +68,7 @@ entered_before true sized p s n = refl
 entered_before false sized p s n = absurd (false_true (sym (ap (λ (q : Progress). q.noted) s) ∙ n))
 
 module _ (bank8 banka : List ℕ) (places : Places) (track : Track) (even : is_odd track.transpose ≡ false)
-    (v : Voice) (in-track : In v track.voices) (used : v.used ≡ true)
+    (v : Voice) (in-track : In (Some v) track.voices)
     (fuel : ℕ) (r : Reader) (x : Reading bank8 banka places track v (suc fuel) r) where
   abbrev c : Channel
   c = r.channel
@@ -96,7 +83,7 @@ module _ (bank8 banka : List ℕ) (places : Places) (track : Track) (even : is_o
   source = block_source bank8 banka places v.kind c.block
 
   abbrev Finds : Command → ℕ → Type 0
-  Finds command next = command_at v.kind bytes c.next ≡ Decoded.Found command next
+  Finds command next = command_at v.kind bytes c.next ≡ Ok (command, next)
 
   abbrev SeenAt : Bool → ℕ → Type 0
   SeenAt begun at = Seen v.kind bytes begun m.clean.sized at
@@ -175,7 +162,7 @@ module _ (bank8 banka : List ℕ) (places : Places) (track : Track) (even : is_o
       from (without_length z unsized count) = absurd (false_true (sym z ∙ past))
 
   -- a note begun behind the command
-  module _ (b sound next : ℕ) (is : is_note v.kind b ≡ true) (sounds : sounding_of v.kind b r.setting.transpose ≡ Sounding.Byte sound)
+  module _ (b sound next : ℕ) (is : is_note v.kind b ≡ true) (sounds : sounding_of v.kind b r.setting.transpose ≡ Some sound)
       (seen : SeenAt true next) (frames : Frames) (h : 0 < frames.count) where
     sounding : (base : ℕ) → Stands bank8 banka places track v (noted (at_cursor c (go_to (cursor_of c) next)) frames frames sound c.timbre base)
     sounding base = record {
@@ -201,14 +188,14 @@ module _ (bank8 banka : List ℕ) (places : Places) (track : Track) (even : is_o
   played_holds _ e (Plays.transposes t next f odd) u =
       passing _ e (on_past (by_transpose t next)) (near f) (seen_on m.next_seen f refl refl) m.start_seen m.counter_most _
       (record {
-        transpose_in = transpose_set bank8 banka track v in-track used m.names.named (transpose_in v.kind bytes m.next_seen.visits f odd);
+        transpose_in = transpose_set bank8 banka track v in-track m.names.named (transpose_in v.kind bytes m.next_seen.visits f odd);
         window_in = x.sets.window_in;
       })
   played_holds _ e (Plays.windows t next f) u =
       passing _ e (on_past (by_window t next)) (near f) (seen_on m.next_seen f refl refl) m.start_seen m.counter_most _
       (record {
         transpose_in = x.sets.transpose_in;
-        window_in = window_set bank8 banka track v in-track used m.names.named (window_in v.kind bytes m.next_seen.visits f);
+        window_in = window_set bank8 banka track v in-track m.names.named (window_in v.kind bytes m.next_seen.visits f);
       })
   played_holds _ e (Plays.ends_loop next f) u =
       passing _ e (on_end next) (near f)
@@ -230,7 +217,7 @@ module _ (bank8 banka : List ℕ) (places : Places) (track : Track) (even : is_o
       (timbre_fits_lem source r.setting c.length c.next unrefused f) _ x.sets
   played_holds _ e (Plays.notes b sound next f sounds h) u =
       (x.sets, sounding b sound next (note_is v.kind bytes c.next f) sounds (seen_noted m.next_seen f refl) c.length h c.ctrl)
-  played_holds _ e (Plays.refuses number offset t h) u = absurd u
+  played_holds _ e (Plays.refuses refusal offset t h) u = absurd u
 
   pub block_holds : StepHolds bank8 banka places track v fuel (step_at bank8 banka places v.kind r Place.Block).reader (step_at bank8 banka places v.kind r Place.Block).stepped
   block_holds = played_holds (played_at source r.setting c.length c.next) refl (plays source r.setting c.length c.next) unrefused

@@ -5,6 +5,7 @@ use mathlib.Core.Bool.{Bool, true, false}
 use mathlib.Core.List.{List}
 use mathlib.Core.Path.{◌≡◌}
 use lib.ListN.{length}
+use Rattle.std.specs.Prelude.{Ok}
 use Rattle.engine_base.specs.declared.time.Frames.{Frames}
 use Rattle.mother_format.specs.Bank.{banks, block_of}
 use Rattle.mother_format.specs.Channel.{Source, block_source, played_at, moved_by}
@@ -69,9 +70,9 @@ module _ (bank8 banka : List ℕ) (places : Places) (track : Track) (v : Voice) 
   pub data Before (by-goto : Bool) (c : Channel) : Type 0 where
     sized : 0 < c.length.count → Before by-goto c
     unsized : c.length.count ≡ 0 →
-        ((address next : ℕ) → entry_at bank c.list c.row by-goto ≡ Entry.Block address next → Heads bank v.list address) →
-        ((target address next : ℕ) → entry_at bank c.list c.row by-goto ≡ Entry.Goto target →
-        entry_at bank target 0 true ≡ Entry.Block address next → Heads bank v.list address) →
+        ((address next : ℕ) → entry_at bank c.list c.row by-goto ≡ Ok (Entry.Block address next) → Heads bank v.list address) →
+        ((target address next : ℕ) → entry_at bank c.list c.row by-goto ≡ Ok (Entry.Goto target) →
+        entry_at bank target 0 true ≡ Ok (Entry.Block address next) → Heads bank v.list address) →
         Before by-goto c
 
   pub record AtWord (by-goto : Bool) (fuel : ℕ) (r : Reader) : Type 0 where
@@ -92,4 +93,4 @@ module _ (bank8 banka : List ℕ) (places : Places) (track : Track) (v : Voice) 
   StepHolds fuel r Stepped.Again = Able fuel r r.place
   StepHolds fuel r Stepped.Note = Sets bank8 banka track r.setting × Stands bank8 banka places track v r.channel
   StepHolds fuel r Stepped.End = Unit {0}
-  StepHolds fuel r (Stepped.Refused number at address) = ⊥
+  StepHolds fuel r (Stepped.Refused refusal at address) = ⊥

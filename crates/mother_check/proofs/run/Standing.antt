@@ -6,10 +6,10 @@ use mathlib.Core.Path.{◌≡◌, refl}
 use native.Mathlib.Omega.{arith}
 use borrow.Author.Tests.{le-leb}
 use lib.ListN.{length}
+use Rattle.std.specs.Prelude.{Option, Some, None}
 use Rattle.engine_base.specs.Address.{within}
 use Rattle.engine_base.specs.Pick.{pick}
 use Rattle.engine_base.specs.declared.time.Frames.{Frames}
-use Rattle.engine_base.proofs.Picks.{by-test}
 use Rattle.mother_format.specs.Bank.{banks, block_of, block_limit}
 use Rattle.mother_format.proofs.bank.Joined.{block_within}
 use Rattle.mother_format.proofs.command.Laws.{stands}
@@ -106,43 +106,46 @@ module _ (bank8 banka : List ℕ) (places : Places) (track : Track) where
     sounds = h.sounds;
   }
 
-  -- of a channel between frames
+  -- of a used channel between frames
   pub data Holds (v : Voice) (c : Channel) : Type 0 where
-    unused : v.used ≡ false → Holds v c
     fresh : c ≡ fresh_channel → Holds v c
     begun : Stands v c → Holds v c
 
-  abbrev pub AllHold : List Voice → List Channel → Type 0
+  -- an unused one may be any
+  abbrev pub VoiceHolds : Option Voice → Channel → Type 0
+  VoiceHolds None c = Unit {0}
+  VoiceHolds (Some v) c = Holds v c
+
+  abbrev pub AllHold : List (Option Voice) → List Channel → Type 0
   AllHold [] cs = Unit {0}
   AllHold (v ∷ vs) [] = Unit {0}
-  AllHold (v ∷ vs) (c ∷ cs) = Holds v c × AllHold vs cs
+  AllHold (v ∷ vs) (c ∷ cs) = VoiceHolds v c × AllHold vs cs
 
   -- 16 refuses none of these
 
-  fresh_fits : (v : Voice) → channel_fits v fresh_channel ≡ true
+  fresh_fits : (v : Voice) → channel_fits (Some v) fresh_channel ≡ true
   unfolding channel_fits sound_fits block_fits
-  fresh_fits v = by-test (λ b. b ≡ true) v.used (λ _. rw (no_timbre_fits v.kind)) λ _. refl
+  fresh_fits v = rw (no_timbre_fits v.kind)
 
   either : (b : Bool) → pick b true true ≡ true
   either true = refl
   either false = refl
 
-  stands_fits : (v : Voice) (c : Channel) → Stands v c → channel_fits v c ≡ true
+  stands_fits : (v : Voice) (c : Channel) → Stands v c → channel_fits (Some v) c ≡ true
   unfolding channel_fits sound_fits block_fits
   stands_fits v c h =
       let m = h.reads in
       let next : c.next ≤ block_limit = seen_within bank8 banka c.block m.next_seen in
       let start : c.loop_start ≤ block_limit = seen_within bank8 banka c.block m.start_seen in
-      by-test (λ b. b ≡ true) v.used
-      (λ _. rw (le-leb _ _ next, le-leb _ _ start, le-leb _ _ h.left_most, h.sounds, m.block_in, m.timbre_fits_lem) (simp either)) λ _. refl
+      rw (le-leb _ _ next, le-leb _ _ start, le-leb _ _ h.left_most, h.sounds, m.block_in, m.timbre_fits_lem) (simp either)
 
-  one_fits : (v : Voice) (c : Channel) → Holds v c → channel_fits v c ≡ true
+  one_fits : (v : Option Voice) (c : Channel) → VoiceHolds v c → channel_fits v c ≡ true
   unfolding channel_fits
-  one_fits v c (unused u) = rw u
-  one_fits v c (fresh e) = rw e (fresh_fits v)
-  one_fits v c (begun h) = stands_fits v c h
+  one_fits None c h = refl
+  one_fits (Some v) c (fresh e) = rw e (fresh_fits v)
+  one_fits (Some v) c (begun h) = stands_fits v c h
 
-  pub all_fit : (vs : List Voice) (cs : List Channel) → AllHold vs cs → channels_fit vs cs ≡ true
+  pub all_fit : (vs : List (Option Voice)) (cs : List Channel) → AllHold vs cs → channels_fit vs cs ≡ true
   all_fit [] cs h = refl
   all_fit (v ∷ vs) [] h = refl
   all_fit (v ∷ vs) (c ∷ cs) (one, more) = rw (one_fits v c one) (all_fit vs cs more)

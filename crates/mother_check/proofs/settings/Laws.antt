@@ -11,19 +11,19 @@ use borrow.Author.Tests.{lt-ltb, le-ltb}
 use lib.Dec.{ltb}
 use lib.ListN.{length, get_or, set, take, drop, drop_of_length-le, length-set}
 use lib.Seq.{drop-cons, drop-set-lt, take-suc-set, take_all, append_snoc}
+use Rattle.std.specs.Prelude.{Option, Some, None, Ok, Err}
 use Rattle.engine_base.specs.Pick.{pick}
-use Rattle.engine_base.proofs.Picks.{pick_true, pick_false}
 use Rattle.engine_base.proofs.Channels.{drop_next}
+use Rattle.engine_base.specs.declared.refusal.Refusal.{Refusal}
 use Rattle.mother_format.specs.Bank.{banks}
-use Rattle.mother_format.specs.Transpose.{is_odd}
 use Rattle.mother_format.specs.Command.{command_at}
 use Rattle.mother_format.specs.Straight.{Straight, is_end, straight_by, straight}
 use Rattle.mother_format.specs.declared.command.Kind.{Kind}
 use Rattle.mother_format.specs.declared.command.Command.{Command}
-use Rattle.mother_format.specs.declared.command.Decoded.{Decoded}
+use Rattle.mother_format.specs.Command.{Decoded}
 use Rattle.mother_format.specs.declared.header.Voice.{Voice}
 use Rattle.mother_check.specs.Walk.{addresses, word_at, marks_at, Named, named_by, named_from}
-use Rattle.mother_check.specs.Extremes.{rank_of, with_transpose, worse_window, worse_from, with_command, with_commands, with_block, with_named, with_channel, with_voices}
+use Rattle.mother_check.specs.Extremes.{rank_of, worse_window, worse_from, with_command, with_commands, with_block, with_named, with_channel, with_voices}
 use Rattle.mother_check.proofs.reading.Straight.{rest_from, rest_is, rest_none}
 use Rattle.mother_check.proofs.walk.Turns.{names_none, names_step, still_marked}
 use Rattle.mother_check.specs.declared.walk.Spot.{Spot}
@@ -41,22 +41,6 @@ module _ (e : Extremes) (m : ℕ) where
       ((a < b) × (x ≡ record { low = m; high = e.high; windows = e.windows })) ⊎ ((b ≤ a) × (x ≡ e)) → x ≡ lowered
   lower_came x a b p q (inl (h, f)) = f ∙ rw (lt-ltb (rank_of m) (rank_of e.low) (omega arith))
   lower_came x a b p q (inr (h, f)) = f ∙ rw (le-ltb (rank_of m) (rank_of e.low) (omega arith))
-
-  module _ (odd : is_odd m ≡ false) (x : Extremes) (l : x ≡ lowered) (a b : ℕ) (p : a ≡ rank_of x.high) (q : b ≡ rank_of m) where
-    high_same : a ≡ rank_of e.high
-    high_same = p ∙ ap (λ (y : Extremes). rank_of y.high) l
-
-    pub higher_taken : a < b → record { low = x.low; high = m; windows = x.windows } ≡ with_transpose e m
-    unfolding with_transpose
-    higher_taken h =
-        let s = high_same in
-        rw (odd, l, lt-ltb (rank_of e.high) (rank_of m) (omega arith))
-
-    pub higher_left : b ≤ a → x ≡ with_transpose e m
-    unfolding with_transpose
-    higher_left h =
-        let s = high_same in
-        l ∙ rw (odd, le-ltb (rank_of e.high) (rank_of m) (omega arith))
 
 -- the windows before the l-th are done
 module _ (bank : List ℕ) (table t : ℕ) (given : List ℕ) where
@@ -108,10 +92,10 @@ module _ (bank : List ℕ) (table : ℕ) (kind : Kind) (bytes : List ℕ) (given
       rest_by : (d : Decoded) → r ≡ d → whole ≡ from_here (straight_by at (λ next. rest_from kind bytes (n + 1) next) d)
       rest_by d f = m.same ∙ ap from_here (rest_is kind bytes n at h d (sym q ∙ f))
 
-      pub gathered_refused : (number offset : ℕ) → r ≡ Decoded.Refused number offset → e ≡ whole
-      gathered_refused number offset f = sym (rest_by _ f)
+      pub gathered_refused : (refusal : Refusal) (offset : ℕ) → r ≡ Err (refusal, offset) → e ≡ whole
+      gathered_refused refusal offset f = sym (rest_by _ f)
 
-      module _ (c : Command) (next : ℕ) (f : r ≡ Decoded.Found c next) where
+      module _ (c : Command) (next : ℕ) (f : r ≡ Ok (c, next)) where
         pub gathered_end : is_end c ≡ true → e ≡ whole
         gathered_end t = sym (rest_by _ f ∙ rw t)
 
@@ -142,39 +126,33 @@ module _ (bank8 banka : List ℕ) (table : ℕ) (kind : Kind) (fuel : ℕ) (whol
       marked_still : length after ≡ addresses
       marked_still = still_marked bank fuel spot marks n word after q addresses m.marked
 
-      pub walked_done : word ≡ Done → e ≡ whole
-      walked_done f = sym (word_by_lem _ f)
+      pub walked_over : (word ≡ Done) ⊎ (word ≡ Bad) → e ≡ whole
+      walked_over (inl f) = sym (word_by_lem _ f)
+      walked_over (inr f) = sym (word_by_lem _ f)
 
-      pub walked_bad : word ≡ Bad → e ≡ whole
-      walked_bad f = sym (word_by_lem _ f)
+      pub walking_goto : (next : Spot) → word ≡ Goto next → (x : Extremes) → x ≡ e → (there : Spot) → there ≡ next → Walking x there after (n + 1)
+      walking_goto next f x g there t = record { within = omega arith; marked = marked_still; same = word_by_lem _ f ∙ rw (g, t) }
 
-      pub walking_goto : (next : Spot) → word ≡ Goto next → Walking e next after (n + 1)
-      walking_goto next f = record { within = omega arith; marked = marked_still; same = word_by_lem _ f }
-
-      pub walking_block : (address : ℕ) (next : Spot) → word ≡ Block address next → (x : Extremes) → x ≡ with_block bank8 banka table kind address e → Walking x next after (n + 1)
-      walking_block address next f x g = record { within = omega arith; marked = marked_still; same = word_by_lem _ f ∙ rw g }
+      pub walking_block : (address : ℕ) (next : Spot) → word ≡ Block address next → (x : Extremes) → x ≡ with_block bank8 banka table kind address e →
+          (there : Spot) → there ≡ next → Walking x there after (n + 1)
+      walking_block address next f x g there t = record { within = omega arith; marked = marked_still; same = word_by_lem _ f ∙ rw (g, t) }
 
 -- the channels, after i of them
-module _ (bank8 banka : List ℕ) (table : ℕ) (given : Extremes) (voices : List Voice) where
+module _ (bank8 banka : List ℕ) (table : ℕ) (given : Extremes) (voices : List (Option Voice)) where
   pub record Visiting (e : Extremes) (i : ℕ) : Type 0 where
     pub within : i ≤ 4
     pub four : length voices ≡ 4
     pub same : with_voices bank8 banka table given voices ≡ with_voices bank8 banka table e (drop i voices)
 
   module _ (e : Extremes) (i : ℕ) (m : Visiting e i) where
-    module _ (h : i < 4) (d : Voice) (x : Extremes) where
-      abbrev voice : Voice
-      voice = get_or voices i d
-
-      visiting_more : x ≡ pick voice.used (with_channel bank8 banka table voice.kind voice.list e) e → Visiting x (i + 1)
+    module _ (h : i < 4) (d : Option Voice) (x : Extremes) where
+      pub visiting_used : (v : Voice) → get_or voices i d ≡ Some v → x ≡ with_channel bank8 banka table v.kind v.list e → Visiting x (i + 1)
       unfolding with_voices
-      visiting_more q = record { within = omega arith; four = m.four; same = m.same ∙ rw (drop_next voices i d m.four h, q) }
+      visiting_used v u q = record { within = omega arith; four = m.four; same = m.same ∙ rw (drop_next voices i d m.four h, u, q) }
 
-      pub visiting_used : voice.used ≡ true → x ≡ with_channel bank8 banka table voice.kind voice.list e → Visiting x (i + 1)
-      visiting_used u q = visiting_more (pick_true _ _ _ x u q)
-
-      pub visiting_unused : voice.used ≡ false → x ≡ e → Visiting x (i + 1)
-      visiting_unused u q = visiting_more (pick_false _ _ _ x u q)
+      pub visiting_unused : get_or voices i d ≡ None → x ≡ e → Visiting x (i + 1)
+      unfolding with_voices
+      visiting_unused u q = record { within = omega arith; four = m.four; same = m.same ∙ rw (drop_next voices i d m.four h, u, q) }
 
     pub visited : 4 ≤ i → e ≡ with_voices bank8 banka table given voices
     unfolding with_voices

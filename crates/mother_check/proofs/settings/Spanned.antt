@@ -5,19 +5,22 @@ use mathlib.Core.List.{List, [], ◌∷◌, ◌++◌, append-nil, append_assoc}
 use mathlib.Core.Path.{◌≡◌, refl, sym, ap, subst, ◌∙◌}
 use native.Mathlib.Nat.{le_refl, le_of_suc-le-suc, zero-add, add-zero}
 use native.Mathlib.Omega.{arith}
-use borrow.Author.Tests.{ltb-true, ltb-false, le-ltb, eqb-true, eqb-false}
-use lib.Dec.{eqb, leb, ltb}
+use borrow.Author.Tests.{ltb-true, ltb-false, le-ltb}
+use lib.Dec.{leb, ltb}
 use lib.ListN.{length, get_or, take, drop, replicate, get_or-replicate, length-replicate}
 use lib.Seq.{get_or-drop}
+use Rattle.std.specs.Prelude.{Option, Some, None, Result, Ok, Err}
 use Rattle.engine_base.specs.Pick.{pick}
-use Rattle.engine_base.specs.Refusal.{invalid_note}
+use Rattle.engine_base.specs.Refusal.{number_of}
+use Rattle.engine_base.specs.declared.refusal.Refusal.{Refusal}
+use Rattle.engine_base.specs.declared.refusal.Refusal.TheVariants.{InvalidNote}
 use Rattle.engine_base.specs.Address.{offset_of}
 use Rattle.engine_base.specs.Bytes.{AllBytes}
 use Rattle.engine_base.proofs.Picks.{by-test, false_true}
 use Rattle.mother_format.specs.Bank.{banks, block_limit, block_of}
 use Rattle.mother_format.specs.Channel.{length_fault}
 use Rattle.mother_format.specs.Transpose.{is_odd}
-use Rattle.mother_format.specs.Header.{number_of, track_of, open_track}
+use Rattle.mother_format.specs.Header.{track_of, open_track}
 use Rattle.mother_format.specs.Command.{is_note, rule_of, needed, note_after, timbre_after, command_by, command_at}
 use Rattle.mother_format.specs.Straight.{Placed, straight}
 use Rattle.mother_format.proofs.straight.Within.{AllStand, straight_within}
@@ -25,53 +28,33 @@ use Rattle.mother_format.specs.declared.bank.Places.{Places}
 use Rattle.mother_format.specs.declared.command.Kind.{Kind}
 use Rattle.mother_format.specs.declared.command.Rule.{Rule}
 use Rattle.mother_format.specs.declared.command.Command.{Command}
-use Rattle.mother_format.specs.declared.command.Decoded.{Decoded}
+use Rattle.mother_format.specs.Command.{Decoded}
 use Rattle.mother_format.specs.declared.header.Voice.{Voice}
 use Rattle.mother_format.specs.declared.header.Track.{Track}
 use Rattle.mother_check.specs.Walk.{Named, block, bad, named}
-use Rattle.mother_check.specs.Settings.{transpose_of, window_of, in_commands, in_blocks, in_voices, transposes_of, windows_of}
-use Rattle.mother_check.specs.Extremes.{rank_of, with_transpose, is_sooner, worse_window, worse_from, with_window, with_command, with_commands, with_block, with_named, with_channel, with_voices, extremes_of}
+use Rattle.mother_check.specs.Settings.{transpose_of, window_of, in_commands, in_blocks, in_voice, in_voices, transposes_of, windows_of}
+use Rattle.mother_check.specs.Extremes.{rank_of, with_transpose, is_sooner, worse_window, worse_from, with_window, with_command, with_commands, with_block, with_named, with_channel, with_voice, with_voices, extremes_of}
+use Rattle.mother_check.proofs.Opened.{opened_is}
 use Rattle.mother_check.proofs.Member.{In, here, there, in_left, in_right, Either, left, right, in_either}
 use Rattle.mother_check.proofs.settings.Spans.{Spans}
 use Rattle.mother_check.specs.declared.settings.Extremes.{Extremes}
 
--- a number sooner than another is neither 0 nor above it, unless that is 0
-sooner_fact : (a b : ℕ) → is_sooner a b ≡ true → (0 < a) × (0 < b → a < b)
-unfolding is_sooner
-sooner_fact a b =
-    by-test (λ x. x ≡ true → (0 < a) × (0 < b → a < b)) (eqb a 0) (λ _ e. absurd (false_true e)) λ n.
-    let some = eqb-false a 0 n in
-    by-test (λ x. x ≡ true → (0 < a) × (0 < b → a < b)) (eqb b 0) (λ z _. let none = eqb-true b 0 z in (omega arith, λ h. absurd (omega arith))) λ _ e.
-    let less = ltb-true a b e in
-    (omega arith, λ _. less)
+-- what a length's tests answer
+abbrev Tested : Type 0
+Tested = Result (Unit {0}) Refusal
 
-later_fact : (a b : ℕ) → is_sooner a b ≡ false → 0 < a → (0 < b) × (b ≤ a)
-unfolding is_sooner
-later_fact a b =
-    by-test (λ x. x ≡ false → 0 < a → (0 < b) × (b ≤ a)) (eqb a 0) (λ z _ h. let none = eqb-true a 0 z in absurd (omega arith)) λ _.
-    by-test (λ x. x ≡ false → 0 < a → (0 < b) × (b ≤ a)) (eqb b 0) (λ _ e _. absurd (false_true (sym e))) λ n e _.
-    let some = eqb-false b 0 n in
-    let less = ltb-false a b e in
-    (omega arith, less)
+never_itself : (a : Tested) → is_sooner a a ≡ false
+never_itself (Ok none) = refl
+never_itself (Err a) = le-ltb (number_of a) (number_of a) (le_refl _)
 
-is_later : (a b : ℕ) → (0 < a → (0 < b) × (b ≤ a)) → is_sooner a b ≡ false
-unfolding is_sooner
-is_later a b f =
-    by-test (λ x. x ≡ false) (eqb a 0) (λ _. refl) λ n.
-    let some = eqb-false a 0 n in
-    let (less, near) = f (omega arith) in
-    by-test (λ x. x ≡ false) (eqb b 0) (λ z. let none = eqb-true b 0 z in absurd (omega arith)) λ _. le-ltb a b near
-
-never_itself : (a : ℕ) → is_sooner a a ≡ false
-never_itself a = is_later a a λ h. (h, le_refl a)
-
-later_than_sooner : (a b t : ℕ) → is_sooner a b ≡ false → is_sooner t b ≡ true → is_sooner a t ≡ false
-later_than_sooner a b t l s =
-    let (some, less) = sooner_fact t b s in
-    is_later a t λ h.
-    let (other, near) = later_fact a b l h in
-    let nearer = less other in
-    (some, omega arith)
+later_than_sooner : (a b t : Tested) → is_sooner a b ≡ false → is_sooner t b ≡ true → is_sooner a t ≡ false
+later_than_sooner (Ok none) b t l s = refl
+later_than_sooner (Err a) (Ok none) t l s = absurd (false_true (sym l))
+later_than_sooner (Err a) (Err b) (Ok none) l s = absurd (false_true s)
+later_than_sooner (Err a) (Err b) (Err t) l s =
+    let near = ltb-false (number_of a) (number_of b) l in
+    let less = ltb-true (number_of t) (number_of b) s in
+    le-ltb (number_of a) (number_of t) (omega arith)
 
 one_is : {A : Type 0} {x y : A} → In x (y ∷ []) → x ≡ y
 one_is here = refl
@@ -154,7 +137,7 @@ module _ (bank : List ℕ) (table : ℕ) where
       rw e (worse_at t (l + 1) i ws (le_of_suc-le-suc h))
 
   module _ (ms ws : List ℕ) (e : Extremes) (s : Spanning ms ws e) (t l : ℕ) (h : l < 16) where
-    abbrev fault : ℕ → ℕ
+    abbrev fault : ℕ → Tested
     fault w = length_fault bank table w l
 
     abbrev window : ℕ
@@ -172,11 +155,11 @@ module _ (bank : List ℕ) (table : ℕ) where
     worse_worst : (w : ℕ) → Either w ws (t ∷ []) → is_sooner (fault w) (fault (pick (is_sooner (fault t) (fault window)) t window)) ≡ false
     worse_worst w (left i) =
         by-test (λ x. is_sooner (fault w) (fault x) ≡ false) (is_sooner (fault t) (fault window))
-        (λ q. later_than_sooner _ _ _ (s.spans.worst l h w i) q)
+        (λ q. later_than_sooner (fault w) (fault window) (fault t) (s.spans.worst l h w i) q)
         (λ _. s.spans.worst l h w i)
     worse_worst w (right i) =
         rw (one_is i)
-        (by-test (λ x. is_sooner (fault t) (fault x) ≡ false) (is_sooner (fault t) (fault window)) (λ _. never_itself _) (λ q. q))
+        (by-test (λ x. is_sooner (fault t) (fault x) ≡ false) (is_sooner (fault t) (fault window)) (λ _. never_itself (fault t)) (λ q. q))
 
   window_more : (ms ws : List ℕ) (e : Extremes) → Spanning ms ws e → (t : ℕ) → Spanning (ms ++ []) (ws ++ (t ∷ [])) (with_window bank table e t)
   unfolding with_window
@@ -226,21 +209,18 @@ module _ (bank8 banka : List ℕ) (table : ℕ) where
       (commands_more _ _ ms ws e s (straight kind (block_of bank8 banka address)).commands) names)
   blocks_more kind ms ws e s (bad place ∷ names) = blocks_more kind ms ws e s names
 
-  voice_more : (ms ws : List ℕ) (e : Extremes) → Spanned ms ws e → (v : Voice) (b : Bool) →
-      Spanned (ms ++ pick b (in_blocks transpose_of bank8 banka v.kind (named (banks bank8 banka) v.list)) [])
-      (ws ++ pick b (in_blocks window_of bank8 banka v.kind (named (banks bank8 banka) v.list)) [])
-      (pick b (with_channel bank8 banka table v.kind v.list e) e)
+  voice_more : (ms ws : List ℕ) (e : Extremes) → Spanned ms ws e → (v : Option Voice) →
+      Spanned (ms ++ in_voice transpose_of bank8 banka v) (ws ++ in_voice window_of bank8 banka v) (with_voice bank8 banka table e v)
   unfolding with_channel
-  voice_more ms ws e s v true = blocks_more v.kind ms ws e s (named (banks bank8 banka) v.list)
-  voice_more ms ws e s v false = nothing_more _ _ s
+  voice_more ms ws e s None = nothing_more _ _ s
+  voice_more ms ws e s (Some v) = blocks_more v.kind ms ws e s (named (banks bank8 banka) v.list)
 
-  voices_more : (ms ws : List ℕ) (e : Extremes) → Spanned ms ws e → (vs : List Voice) →
+  voices_more : (ms ws : List ℕ) (e : Extremes) → Spanned ms ws e → (vs : List (Option Voice)) →
       Spanned (ms ++ in_voices transpose_of bank8 banka vs) (ws ++ in_voices window_of bank8 banka vs) (with_voices bank8 banka table e vs)
   unfolding with_voices
   voices_more ms ws e s [] = nothing_more _ _ s
   voices_more ms ws e s (v ∷ vs) =
-      both_more _ _ ms _ _ ws _ _ (voices_more (ms ++ pick v.used (in_blocks transpose_of bank8 banka v.kind (named (banks bank8 banka) v.list)) [])
-      (ws ++ pick v.used (in_blocks window_of bank8 banka v.kind (named (banks bank8 banka) v.list)) []) _ (voice_more ms ws e s v v.used) vs)
+      both_more _ _ ms _ _ ws _ _ (voices_more (ms ++ in_voice transpose_of bank8 banka v) (ws ++ in_voice window_of bank8 banka v) _ (voice_more ms ws e s v) vs)
 
 -- the header's, before any command
 header_spans : (bank : List ℕ) (table m t : ℕ) → Spanning bank table (m ∷ []) (t ∷ []) (record { low = m; high = m; windows = replicate 16 t })
@@ -252,7 +232,7 @@ header_spans bank table m t = record {
     lowest = λ k i. rw (one_is i) (le_refl _);
     highest = λ k i. rw (one_is i) (le_refl _);
     window_in = λ l h. rw (get_or-replicate 16 l t 0 h) here;
-    worst = λ l h w i. rw (get_or-replicate 16 l t 0 h, one_is i) (never_itself _);
+    worst = λ l h w i. rw (get_or-replicate 16 l t 0 h, one_is i) (never_itself (length_fault bank table t l));
   };
 }
 
@@ -298,30 +278,30 @@ both_small ms ks a b m i = by (in_either ms i)
 
 -- a transpose is a byte of its block
 abbrev Reads : Decoded → Type 0
-Reads (Decoded.Found c next) = Small (transpose_of c)
-Reads (Decoded.Refused number offset) = Unit {0}
+Reads (Ok (c, next)) = Small (transpose_of c)
+Reads (Err (refusal, offset)) = Unit {0}
 
 module _ (kind : Kind) (bytes : List ℕ) (a : AllBytes bytes) where
   needed_reads : (at : ℕ) (go : ℕ → Decoded) → Reads (go (get_or bytes at 0)) → Reads (needed bytes at go)
   needed_reads at go r = by-test Reads (leb (length bytes) at) (λ _. tt) (λ _. r)
 
-  rule_reads : (at : ℕ) (rule : Rule) → Reads (command_by kind bytes at rule)
+  rule_reads : (at : ℕ) (rule : Result Rule Refusal) → Reads (command_by kind bytes at rule)
   unfolding note_after timbre_after
-  rule_reads at Rule.End = none_small
-  rule_reads at Rule.Transpose =
-      needed_reads (at + 1) (λ m. Decoded.Found (Command.Transpose m) (at + 1 + 1))
+  rule_reads at (Ok Rule.End) = none_small
+  rule_reads at (Ok Rule.Transpose) =
+      needed_reads (at + 1) (λ m. Ok (Command.Transpose m, at + 1 + 1))
       (by-test Small (is_odd (get_or bytes (at + 1) 0)) (λ _. none_small) (λ _. one_small _ (a (at + 1))))
-  rule_reads at Rule.Window = needed_reads (at + 1) (λ t. Decoded.Found (Command.Window t) (at + 1 + 1)) none_small
-  rule_reads at Rule.EndLoop = none_small
-  rule_reads at (Rule.Length l) =
-      needed_reads (at + 1) (λ b. pick (is_note kind b) (Decoded.Found (Command.Length l b) (at + 1 + 1)) (Decoded.Refused invalid_note (at + 1)))
+  rule_reads at (Ok Rule.Window) = needed_reads (at + 1) (λ t. Ok (Command.Window t, at + 1 + 1)) none_small
+  rule_reads at (Ok Rule.EndLoop) = none_small
+  rule_reads at (Ok (Rule.Length l)) =
+      needed_reads (at + 1) (λ b. pick (is_note kind b) (Ok (Command.Length l b, at + 1 + 1)) (Err (InvalidNote, at + 1)))
       (by-test Reads (is_note kind (get_or bytes (at + 1) 0)) (λ _. none_small) (λ _. tt))
-  rule_reads at (Rule.BeginLoop n) = none_small
-  rule_reads at Rule.Timbre =
-      needed_reads (at + 1) (λ x. needed bytes (at + 1 + 1) (λ c. Decoded.Found (Command.Timbre x c) (at + 1 + 1 + 1)))
-      (needed_reads (at + 1 + 1) (λ c. Decoded.Found (Command.Timbre (get_or bytes (at + 1) 0) c) (at + 1 + 1 + 1)) none_small)
-  rule_reads at Rule.Note = none_small
-  rule_reads at (Rule.Invalid number) = tt
+  rule_reads at (Ok (Rule.BeginLoop n)) = none_small
+  rule_reads at (Ok Rule.Timbre) =
+      needed_reads (at + 1) (λ x. needed bytes (at + 1 + 1) (λ c. Ok (Command.Timbre x c, at + 1 + 1 + 1)))
+      (needed_reads (at + 1 + 1) (λ c. Ok (Command.Timbre (get_or bytes (at + 1) 0) c, at + 1 + 1 + 1)) none_small)
+  rule_reads at (Ok Rule.Note) = none_small
+  rule_reads at (Err refusal) = tt
 
   command_reads : (at : ℕ) → Reads (command_at kind bytes at)
   unfolding command_at
@@ -351,23 +331,23 @@ module _ (bank8 banka : List ℕ) (a : AllBytes bank8) (b : AllBytes banka) wher
       (blocks_small kind names)
   blocks_small kind (bad place ∷ names) = blocks_small kind names
 
-  voices_small : (vs : List Voice) → Small (in_voices transpose_of bank8 banka vs)
+  voice_small : (v : Option Voice) → Small (in_voice transpose_of bank8 banka v)
+  voice_small None = none_small
+  voice_small (Some v) = blocks_small v.kind (named (banks bank8 banka) v.list)
+
+  voices_small : (vs : List (Option Voice)) → Small (in_voices transpose_of bank8 banka vs)
   voices_small [] = none_small
-  voices_small (v ∷ vs) =
-      both_small (pick v.used (in_blocks transpose_of bank8 banka v.kind (named (banks bank8 banka) v.list)) []) _
-      (by-test Small v.used (λ _. blocks_small v.kind (named (banks bank8 banka) v.list)) (λ _. none_small))
-      (voices_small vs)
+  voices_small (v ∷ vs) = both_small (in_voice transpose_of bank8 banka v) _ (voice_small v) (voices_small vs)
 
-  header_byte : (places : Places) (track : ℕ) → (open_track bank8 banka places track).track.transpose ≤ 255
-  unfolding open_track track_of
-  header_byte places track =
-      by-test (λ (t : Track). t.transpose ≤ 255) (eqb (number_of bank8 banka places track) 0)
-      (λ _. join_bytes bank8 banka a b _) (λ _. omega arith)
+  header_byte : (places : Places) (number : ℕ) (track : Track) → open_track bank8 banka places number ≡ Ok track → track.transpose ≤ 255
+  unfolding track_of
+  header_byte places number track e =
+      subst (λ (t : Track). t.transpose ≤ 255) (opened_is bank8 banka places number track e).1 (join_bytes bank8 banka a b _)
 
-pub transposes_bytes : (bank8 banka : List ℕ) (places : Places) (track : ℕ) → AllBytes bank8 → AllBytes banka →
-    (m : ℕ) → In m (transposes_of bank8 banka (open_track bank8 banka places track).track) → m ≤ 255
+pub transposes_bytes : (bank8 banka : List ℕ) (places : Places) (number : ℕ) (track : Track) → AllBytes bank8 → AllBytes banka →
+    open_track bank8 banka places number ≡ Ok track → (m : ℕ) → In m (transposes_of bank8 banka track) → m ≤ 255
 unfolding transposes_of
-transposes_bytes bank8 banka places track a b =
-    both_small ((open_track bank8 banka places track).track.transpose ∷ []) _
-    (one_small _ (header_byte bank8 banka a b places track))
-    (voices_small bank8 banka a b (open_track bank8 banka places track).track.voices)
+transposes_bytes bank8 banka places number track a b e =
+    both_small (track.transpose ∷ []) _
+    (one_small _ (header_byte bank8 banka a b places number track e))
+    (voices_small bank8 banka a b track.voices)

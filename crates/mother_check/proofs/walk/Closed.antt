@@ -9,9 +9,11 @@ use borrow.Author.Tests.{eqb-true, eqb-false}
 use lib.Dec.{eqb}
 use lib.ListN.{length, get_or, set, length-set, length-replicate}
 use lib.Seq.{get_or-set_other}
+use Rattle.std.specs.Prelude.{Result, Ok, Err}
 use Rattle.engine_base.specs.Address.{bank_start, bank_end, offset_of}
 use Rattle.engine_base.proofs.Picks.{false_true}
 use Rattle.engine_base.proofs.address.Inside.{inside}
+use Rattle.engine_base.specs.declared.refusal.Refusal.{Refusal}
 use Rattle.mother_format.specs.Playlist.{row_limit, entry_at}
 use Rattle.mother_format.proofs.playlist.Next.{EntryWithin, entry_within}
 use Rattle.mother_format.specs.declared.playlist.Entry.{Entry}
@@ -21,17 +23,17 @@ use Rattle.mother_check.proofs.Member.{In, here, there}
 use Rattle.mother_check.proofs.walk.Marks.{falses, fewer_falses, all_false, each_false}
 
 -- the word at a spot, as the player reads it
-abbrev entry_of : List ℕ → Spot → Entry
+abbrev entry_of : List ℕ → Spot → Result Entry Refusal
 entry_of bank s = entry_at bank s.list s.row s.by_goto
 
 -- where the walk comes, with the number of words left to look at, the marks and the place
 data Walked (bank : List ℕ) (list most : ℕ) (none : List Bool) : ℕ → Spot → List Bool → ℕ → Type 0 where
   start : Walked bank list most none most (first_spot list) none 0
   on_goto : {more place target : ℕ} {s : Spot} {marks : List Bool} → Walked bank list most none (suc more) s marks place →
-      entry_of bank s ≡ Entry.Goto target → get_or marks (offset_of target) false ≡ false →
+      entry_of bank s ≡ Ok (Entry.Goto target) → get_or marks (offset_of target) false ≡ false →
       Walked bank list most none more (spot_at target 0 true) (set marks (offset_of target) true) (place + 1)
   on_block : {more place address next : ℕ} {s : Spot} {marks : List Bool} → Walked bank list most none (suc more) s marks place →
-      entry_of bank s ≡ Entry.Block address next →
+      entry_of bank s ≡ Ok (Entry.Block address next) →
       Walked bank list most none more (spot_at next (s.row + 1) false) marks (place + 1)
 
 -- it comes there with a word left to look at
@@ -54,28 +56,28 @@ record Opening (most : ℕ) (none : List Bool) : Type 0 where
 
 -- one word of the definition
 module _ (bank : List ℕ) (more : ℕ) (s : Spot) (marks : List Bool) (place : ℕ) where
-  goto_on : (target : ℕ) → entry_of bank s ≡ Entry.Goto target → get_or marks (offset_of target) false ≡ false →
+  goto_on : (target : ℕ) → entry_of bank s ≡ Ok (Entry.Goto target) → get_or marks (offset_of target) false ≡ false →
       named_from bank (suc more) s marks place ≡
       named_from bank more (spot_at target 0 true) (set marks (offset_of target) true) (place + 1)
   unfolding named_from word_at
   goto_on target e c = rw (e, c)
 
-  block_on : (address next : ℕ) → entry_of bank s ≡ Entry.Block address next →
+  block_on : (address next : ℕ) → entry_of bank s ≡ Ok (Entry.Block address next) →
       named_from bank (suc more) s marks place ≡
       Named.block place address ∷ named_from bank more (spot_at next (s.row + 1) false) marks (place + 1)
   unfolding named_from word_at
   block_on address next e = rw e
 
-  bad_on : entry_of bank s ≡ Entry.Refused → named_from bank (suc more) s marks place ≡ Named.bad place ∷ []
+  bad_on : {refusal : Refusal} → entry_of bank s ≡ Err refusal → named_from bank (suc more) s marks place ≡ Named.bad place ∷ []
   unfolding named_from word_at
   bad_on e = rw e
 
 module _ (bank : List ℕ) (s : Spot) where
-  goto_inside : (target : ℕ) → entry_of bank s ≡ Entry.Goto target → (bank_start ≤ target) × (target + 1 ≤ bank_end)
+  goto_inside : (target : ℕ) → entry_of bank s ≡ Ok (Entry.Goto target) → (bank_start ≤ target) × (target + 1 ≤ bank_end)
   goto_inside target e =
       inside target 1 (subst (EntryWithin s.row) e (entry_within bank s.list s.row s.by_goto))
 
-  block_row : (address next : ℕ) → entry_of bank s ≡ Entry.Block address next → s.row < row_limit
+  block_row : (address next : ℕ) → entry_of bank s ≡ Ok (Entry.Block address next) → s.row < row_limit
   block_row address next e =
       (subst (EntryWithin s.row) e (entry_within bank s.list s.row s.by_goto)).0
 
@@ -117,7 +119,7 @@ module _ {bank : List ℕ} {list most : ℕ} {none : List Bool} (o : Opening mos
       from earlier false q =
           earlier (sym (get_or-set_other marks (offset_of other) (offset_of target) true false (eqb-false _ _ q)) ∙ m)
 
-  goto_comes : {s : Spot} {target : ℕ} → Comes bank list most none s → entry_of bank s ≡ Entry.Goto target →
+  goto_comes : {s : Spot} {target : ℕ} → Comes bank list most none s → entry_of bank s ≡ Ok (Entry.Goto target) →
       Comes bank list most none (spot_at target 0 true)
   goto_comes {s} {target} at e = from (get_or at.marks (offset_of target) false) refl
     where
@@ -161,11 +163,11 @@ pub first_looked : (bank : List ℕ) (list : ℕ) → Looked bank list (first_sp
 first_looked bank list = record { at = comes opening start }
 
 module _ {bank : List ℕ} {list : ℕ} {s : Spot} (l : Looked bank list s) where
-  pub goto_looked : {target : ℕ} → entry_at bank s.list s.row s.by_goto ≡ Entry.Goto target →
+  pub goto_looked : {target : ℕ} → entry_at bank s.list s.row s.by_goto ≡ Ok (Entry.Goto target) →
       Looked bank list (spot_at target 0 true)
   goto_looked e = record { at = goto_comes opening l.at e }
 
-  pub block_looked : {address next : ℕ} → entry_at bank s.list s.row s.by_goto ≡ Entry.Block address next →
+  pub block_looked : {address next : ℕ} → entry_at bank s.list s.row s.by_goto ≡ Ok (Entry.Block address next) →
       Looked bank list (spot_at next (s.row + 1) false)
   block_looked e = record { at = comes opening (on_block l.at.walked e) }
 
@@ -173,17 +175,17 @@ module _ {bank : List ℕ} {list : ℕ} {s : Spot} (l : Looked bank list s) wher
   unfolding named
   looked_named m = still_named l.at.walked m
 
-  pub block_named : {address next : ℕ} → entry_at bank s.list s.row s.by_goto ≡ Entry.Block address next →
+  pub block_named : {address next : ℕ} → entry_at bank s.list s.row s.by_goto ≡ Ok (Entry.Block address next) →
       Names bank list address
   block_named {address} {next} e = record {
     place = l.at.place;
     named = looked_named (rw (block_on bank _ _ _ _ address next e) here);
   }
 
-  pub bad_named : entry_at bank s.list s.row s.by_goto ≡ Entry.Refused → Bads bank list
+  pub bad_named : {refusal : Refusal} → entry_at bank s.list s.row s.by_goto ≡ Err refusal → Bads bank list
   bad_named e = record { place = l.at.place; named = looked_named (rw (bad_on bank _ _ _ _ e) here) }
 
-pub first_block : {bank : List ℕ} {list address next : ℕ} → entry_at bank list 0 false ≡ Entry.Block address next →
+pub first_block : {bank : List ℕ} {list address next : ℕ} → entry_at bank list 0 false ≡ Ok (Entry.Block address next) →
     Heads bank list address
 unfolding named
 first_block {bank} {list} {address} {next} e = record {
@@ -192,8 +194,8 @@ first_block {bank} {list} {address} {next} e = record {
   is = block_on bank (most_words - 1) (first_spot list) unmarked 0 address next e;
 }
 
-pub first_block_by_goto : {bank : List ℕ} {list target address next : ℕ} → entry_at bank list 0 false ≡ Entry.Goto target →
-    entry_at bank target 0 true ≡ Entry.Block address next → Heads bank list address
+pub first_block_by_goto : {bank : List ℕ} {list target address next : ℕ} → entry_at bank list 0 false ≡ Ok (Entry.Goto target) →
+    entry_at bank target 0 true ≡ Ok (Entry.Block address next) → Heads bank list address
 unfolding named
 first_block_by_goto {bank} {list} {target} {address} {next} e b = record {
   place = 1;

@@ -7,8 +7,10 @@ use native.Mathlib.Omega.{arith}
 use mir.Syntax.{w16}
 use mir.Val.{Fits}
 use lib.ListN.{get_or}
+use Rattle.std.specs.Prelude.{Result, Ok}
 use Rattle.engine_base.specs.Address.{offset_of}
 use Rattle.engine_base.proofs.address.Inside.{inside}
+use Rattle.engine_base.specs.declared.refusal.Refusal.{Refusal}
 use Rattle.mother_format.specs.Playlist.{entry_at}
 use Rattle.mother_format.proofs.playlist.Next.{EntryWithin, entry_within}
 use Rattle.mother_format.specs.declared.playlist.Entry.{Entry}
@@ -18,19 +20,19 @@ use Rattle.mother_check.specs.declared.walk.Word.{Word}
 use Rattle.mother_check.specs.declared.walk.Word.TheVariants.{Done, Goto}
 
 -- found is what `entry_at` answers
-module _ (bank : List ℕ) (spot : Spot) (marks : List Bool) (found : Entry) (q : found ≡ entry_at bank spot.list spot.row spot.by_goto) where
-  entry_fits : (x : Entry) → found ≡ x → EntryWithin spot.row x
+module _ (bank : List ℕ) (spot : Spot) (marks : List Bool) (found : Result Entry Refusal) (q : found ≡ entry_at bank spot.list spot.row spot.by_goto) where
+  entry_fits : (x : Result Entry Refusal) → found ≡ x → EntryWithin spot.row x
   entry_fits x e = subst (EntryWithin spot.row) (sym q ∙ e) (entry_within bank spot.list spot.row spot.by_goto)
 
-  pub target_fits : (target : ℕ) → found ≡ Entry.Goto target → (at : ℕ) → at ≡ offset_of target → (n : ℕ) → n ≡ addresses → at < n
-  target_fits target e at o n l =
+  pub target_fits : (target : ℕ) → found ≡ Ok (Entry.Goto target) → (at : ℕ) → at ≡ offset_of target → at < addresses
+  target_fits target e at o =
       let (low, high) = inside target 1 (entry_fits _ e) in
       omega arith
 
-  pub row_fits : (address next : ℕ) → found ≡ Entry.Block address next → Fits w16 (spot.row + 1)
+  pub row_fits : (address next : ℕ) → found ≡ Ok (Entry.Block address next) → Fits w16 (spot.row + 1)
   row_fits address next e = let h = (entry_fits _ e).0 in record { fits = omega arith }
 
-  pub answers_word : (x : Entry) → found ≡ x → (word : Word) → word ≡ word_by spot marks x → (after : List Bool) → after ≡ marks_by marks word →
+  pub answers_word : (x : Result Entry Refusal) → found ≡ x → (word : Word) → word ≡ word_by spot marks x → (after : List Bool) → after ≡ marks_by marks word →
       (word ≡ word_at bank spot marks) × (after ≡ marks_at bank spot marks)
   unfolding word_at
   answers_word x e word w after m =
@@ -38,9 +40,9 @@ module _ (bank : List ℕ) (spot : Spot) (marks : List Bool) (found : Entry) (q 
       (is, m ∙ ap (marks_by marks) is)
 
 pub goes_marked : (spot : Spot) (target at : ℕ) → at ≡ offset_of target → (marks : List Bool) → get_or marks at false ≡ true →
-    Done ≡ word_by spot marks (Entry.Goto target)
+    Done ≡ word_by spot marks (Ok (Entry.Goto target))
 goes_marked spot target at o marks t = let m : get_or marks (offset_of target) false ≡ true = rw (← o) t in rw m
 
 pub goes_unmarked : (spot : Spot) (target at : ℕ) → at ≡ offset_of target → (marks : List Bool) → get_or marks at false ≡ false →
-    Goto (spot_at target 0 true) ≡ word_by spot marks (Entry.Goto target)
+    Goto (spot_at target 0 true) ≡ word_by spot marks (Ok (Entry.Goto target))
 goes_unmarked spot target at o marks t = let m : get_or marks (offset_of target) false ≡ false = rw (← o) t in rw m

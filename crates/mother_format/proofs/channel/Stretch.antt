@@ -6,14 +6,14 @@ use borrow.Author.Tests.{eqb-true, eqb-false}
 use lib.Dec.{eqb}
 use Rattle.engine_base.specs.declared.time.Frames.{Frames}
 use Rattle.mother_format.specs.Bank.{block_limit}
-use Rattle.mother_format.specs.Command.{command_at}
+use Rattle.mother_format.specs.Command.{Decoded, command_at}
 use Rattle.mother_format.specs.Channel.{Source, played_at, go_to, moved_by}
 use Rattle.engine_base.proofs.Picks.{by-test}
 use Rattle.engine_base.proofs.loops.Bound.{counter_bound, full, Mark, begins, ends, passes, Moves, begin, pass, go_on, go_back, Row, none, then, fresh_bound, any_bound}
 use Rattle.mother_format.proofs.command.Laws.{stands}
 use Rattle.mother_format.proofs.channel.Plays.{Plays, transposes, windows, ends_loop, begins_loop, sets_timbre, plays, ends_block, sets_length, notes, refuses}
 use Rattle.mother_format.specs.declared.command.Command.{Command}
-use Rattle.mother_format.specs.declared.command.Decoded.{Decoded}
+use Rattle.std.specs.Prelude.{Ok, Err}
 use Rattle.mother_format.specs.declared.channel.Setting.{Setting}
 use Rattle.mother_format.specs.declared.channel.Cursor.{Cursor}
 use Rattle.mother_format.specs.declared.channel.Played.{Played}
@@ -31,15 +31,15 @@ pub data Onward : Played → ℕ → Type 0 where
   on_end : (next : ℕ) → Onward (Played.EndLoop next) next
 
 abbrev mark_by : Decoded → Mark
-mark_by (Decoded.Found Command.End next) = begins
-mark_by (Decoded.Found (Command.Transpose m) next) = passes next
-mark_by (Decoded.Found (Command.Window t) next) = passes next
-mark_by (Decoded.Found Command.EndLoop next) = ends
-mark_by (Decoded.Found (Command.Length l b) next) = begins
-mark_by (Decoded.Found (Command.BeginLoop n) next) = begins
-mark_by (Decoded.Found (Command.Timbre x c) next) = passes next
-mark_by (Decoded.Found (Command.Note b) next) = begins
-mark_by (Decoded.Refused number offset) = begins
+mark_by (Ok (Command.End, next)) = begins
+mark_by (Ok (Command.Transpose m, next)) = passes next
+mark_by (Ok (Command.Window t, next)) = passes next
+mark_by (Ok (Command.EndLoop, next)) = ends
+mark_by (Ok (Command.Length l b, next)) = begins
+mark_by (Ok (Command.BeginLoop n, next)) = begins
+mark_by (Ok (Command.Timbre x c, next)) = passes next
+mark_by (Ok (Command.Note b, next)) = begins
+mark_by (Err (refusal, offset)) = begins
 
 module _ (source : Source) (end : ℕ) where
   mark : ℕ → Mark
@@ -127,7 +127,7 @@ module _ (source : Source) where
   moved_past {cursor} setting frames (begins_loop n counter next _ _) o = elim o [ ]
   moved_past {cursor} setting frames (sets_length l b sound next long _ _ _) o = elim o [ ]
   moved_past {cursor} setting frames (notes b sound next _ _ _) o = elim o [ ]
-  moved_past {cursor} setting frames (refuses number offset _ _) o = elim o [ ]
+  moved_past {cursor} setting frames (refuses refusal offset _ _) o = elim o [ ]
 
   pub read_once : {cursor last : Cursor} {n : ℕ} → Passing cursor n last → Once cursor n last
   read_once none_yet = record { start = refl; counter = refl; on = omega arith }

@@ -2,33 +2,34 @@
 use Prim.Native.Nat.{ℕ, ◌+◌, ◌/◌, ◌%◌, ◌≤◌, ◌<◌, max}
 use mathlib.Core.Bool.{true}
 use mathlib.Core.List.{List}
-use mathlib.Core.Path.{◌≡◌, refl, subst}
+use mathlib.Core.Path.{◌≡◌, refl, ap, subst}
 use native.Mathlib.Omega.{arith}
 use borrow.Author.Tests.{leb-true, leb-false, lt-leb}
 use lib.Dec.{leb, ltb, eqb}
 use lib.ListN.{length, get_or}
 use Rattle.engine_base.specs.Pick.{pick}
-use Rattle.engine_base.specs.Refusal.{invalid_command, invalid_note, past_data, FaultWithin}
-use Rattle.mother_format.specs.Command.{is_key, is_preset, is_note, melodic_rule, noise_rule, own_rule, rule_of, needed, note_after, timbre_after, command_by, command_at, bytes_of}
+use Rattle.std.specs.Prelude.{Result, Ok, Err}
+use Rattle.engine_base.specs.Refusal.{number_of, FaultWithin}
+use Rattle.engine_base.specs.declared.refusal.Refusal.{Refusal}
+use Rattle.engine_base.specs.declared.refusal.Refusal.TheVariants.{InvalidCommand, InvalidNote, PastData}
+use Rattle.mother_format.specs.Command.{Decoded, is_key, is_preset, is_note, melodic_rule, noise_rule, own_rule, rule_of, needed, note_after, timbre_after, command_by, command_at, bytes_of}
 use Rattle.engine_base.proofs.Picks.{by-test}
 use Rattle.mother_format.specs.declared.command.Kind.{Kind}
 use Rattle.mother_format.specs.declared.command.Kind.TheVariants.{Square, Triangle, Noise}
 use Rattle.mother_format.specs.declared.command.Rule.{Rule}
 use Rattle.mother_format.specs.declared.command.Command.{Command}
-use Rattle.mother_format.specs.declared.command.Decoded.{Decoded}
-use Rattle.mother_format.specs.declared.command.Decoded.TheVariants.{Found, Refused}
 
 -- L of BL is in its byte, n of a begin has six bits, a note's byte is one of the channel, and a byte that is no command is 10 or 11
-abbrev pub Sorted : Kind → ℕ → Rule → Type 0
-Sorted kind b Rule.End = Unit {0}
-Sorted kind b Rule.Transpose = Unit {0}
-Sorted kind b Rule.Window = Unit {0}
-Sorted kind b Rule.EndLoop = Unit {0}
-Sorted kind b (Rule.Length l) = l ≡ b % 16
-Sorted kind b (Rule.BeginLoop n) = n < 64
-Sorted kind b Rule.Timbre = Unit {0}
-Sorted kind b Rule.Note = is_note kind b ≡ true
-Sorted kind b (Rule.Invalid number) = (invalid_command ≤ number) × (number ≤ invalid_note)
+abbrev pub Sorted : Kind → ℕ → Result Rule Refusal → Type 0
+Sorted kind b (Ok Rule.End) = Unit {0}
+Sorted kind b (Ok Rule.Transpose) = Unit {0}
+Sorted kind b (Ok Rule.Window) = Unit {0}
+Sorted kind b (Ok Rule.EndLoop) = Unit {0}
+Sorted kind b (Ok (Rule.Length l)) = l ≡ b % 16
+Sorted kind b (Ok (Rule.BeginLoop n)) = n < 64
+Sorted kind b (Ok Rule.Timbre) = Unit {0}
+Sorted kind b (Ok Rule.Note) = is_note kind b ≡ true
+Sorted kind b (Err refusal) = (number_of InvalidCommand ≤ number_of refusal) × (number_of refusal ≤ number_of InvalidNote)
 
 melodic_sorted : (kind : Kind) (b : ℕ) → (is_key b ≡ true → is_note kind b ≡ true) → Sorted kind b (melodic_rule b)
 unfolding melodic_rule
@@ -67,13 +68,13 @@ Small (Command.Timbre x c) = Unit {0}
 Small (Command.Note b) = Unit {0}
 
 -- 15 wants a byte behind the data
-abbrev pub Wants : List ℕ → ℕ → ℕ → Type 0
-Wants bytes number offset = number ≡ past_data → length bytes ≤ offset
+abbrev pub Wants : List ℕ → Refusal → ℕ → Type 0
+Wants bytes refusal offset = refusal ≡ PastData → length bytes ≤ offset
 
 -- a command stands wholly in the data; a refusal is one of 10 to 15 and names the offset, or one in the data or at its end
 abbrev pub Stands : List ℕ → ℕ → Decoded → Type 0
-Stands bytes at (Found c next) = (next ≡ at + length (bytes_of c)) × (next ≤ length bytes) × Small c
-Stands bytes at (Refused number offset) = FaultWithin (max at (length bytes)) number offset × Wants bytes number offset
+Stands bytes at (Ok (c, next)) = (next ≡ at + length (bytes_of c)) × (next ≤ length bytes) × Small c
+Stands bytes at (Err (refusal, offset)) = FaultWithin (max at (length bytes)) refusal offset × Wants bytes refusal offset
 
 module _ (kind : Kind) (bytes : List ℕ) (at : ℕ) where
   needs_byte : (here : ℕ) (go : ℕ → Decoded) → here ≤ length bytes →
@@ -81,23 +82,23 @@ module _ (kind : Kind) (bytes : List ℕ) (at : ℕ) where
   needs_byte here go h k =
       by-test (Stands bytes at) (leb (length bytes) here) (λ n. ((omega arith, omega arith, omega arith), λ _. leb-true _ _ n)) λ n. k (leb-false _ _ n)
 
-  rule_stands : at < length bytes → (rule : Rule) → Sorted kind (get_or bytes at 0) rule → Stands bytes at (command_by kind bytes at rule)
+  rule_stands : at < length bytes → (rule : Result Rule Refusal) → Sorted kind (get_or bytes at 0) rule → Stands bytes at (command_by kind bytes at rule)
   unfolding note_after timbre_after
-  rule_stands h Rule.End s = (refl, omega arith, tt)
-  rule_stands h Rule.Transpose s = needs_byte (at + 1) (λ m. Found (Command.Transpose m) (at + 1 + 1)) (omega arith) λ w. (omega arith, omega arith, tt)
-  rule_stands h Rule.Window s = needs_byte (at + 1) (λ t. Found (Command.Window t) (at + 1 + 1)) (omega arith) λ w. (omega arith, omega arith, tt)
-  rule_stands h Rule.EndLoop s = (refl, omega arith, tt)
-  rule_stands h (Rule.Length l) s =
-      needs_byte (at + 1) (λ b. pick (is_note kind b) (Found (Command.Length l b) (at + 1 + 1)) (Refused invalid_note (at + 1))) (omega arith) λ w.
+  rule_stands h (Ok Rule.End) s = (refl, omega arith, tt)
+  rule_stands h (Ok Rule.Transpose) s = needs_byte (at + 1) (λ m. Ok (Command.Transpose m, at + 1 + 1)) (omega arith) λ w. (omega arith, omega arith, tt)
+  rule_stands h (Ok Rule.Window) s = needs_byte (at + 1) (λ t. Ok (Command.Window t, at + 1 + 1)) (omega arith) λ w. (omega arith, omega arith, tt)
+  rule_stands h (Ok Rule.EndLoop) s = (refl, omega arith, tt)
+  rule_stands h (Ok (Rule.Length l)) s =
+      needs_byte (at + 1) (λ b. pick (is_note kind b) (Ok (Command.Length l b, at + 1 + 1)) (Err (InvalidNote, at + 1))) (omega arith) λ w.
       by-test (Stands bytes at) (is_note kind (get_or bytes (at + 1) 0)) (λ _. (omega arith, omega arith, tt)) λ _.
-      ((omega arith, omega arith, omega arith), λ z. absurd (omega arith))
-  rule_stands h (Rule.BeginLoop n) s = (refl, omega arith, s)
-  rule_stands h Rule.Timbre s =
-      needs_byte (at + 1) (λ x. needed bytes (at + 1 + 1) (λ c. Found (Command.Timbre x c) (at + 1 + 1 + 1))) (omega arith) λ w.
-      needs_byte (at + 1 + 1) (λ c. Found (Command.Timbre (get_or bytes (at + 1) 0) c) (at + 1 + 1 + 1)) (omega arith) λ v.
+      ((omega arith, omega arith, omega arith), λ z. let n : number_of InvalidNote ≡ number_of PastData = ap number_of z in absurd (omega arith))
+  rule_stands h (Ok (Rule.BeginLoop n)) s = (refl, omega arith, s)
+  rule_stands h (Ok Rule.Timbre) s =
+      needs_byte (at + 1) (λ x. needed bytes (at + 1 + 1) (λ c. Ok (Command.Timbre x c, at + 1 + 1 + 1))) (omega arith) λ w.
+      needs_byte (at + 1 + 1) (λ c. Ok (Command.Timbre (get_or bytes (at + 1) 0) c, at + 1 + 1 + 1)) (omega arith) λ v.
       (omega arith, omega arith, tt)
-  rule_stands h Rule.Note s = (refl, omega arith, tt)
-  rule_stands h (Rule.Invalid number) (low, high) = ((low, omega arith, omega arith), λ z. absurd (omega arith))
+  rule_stands h (Ok Rule.Note) s = (refl, omega arith, tt)
+  rule_stands h (Err refusal) (low, high) = ((low, omega arith, omega arith), λ z. let n : number_of refusal ≡ number_of PastData = ap number_of z in absurd (omega arith))
 
   command_stands : Stands bytes at (command_at kind bytes at)
   unfolding command_at

@@ -8,6 +8,8 @@ use borrow.Author.Tests.{ltb-true}
 use mir.Syntax.{w16}
 use mir.Val.{Fits}
 use lib.Dec.{eqb, ltb}
+use Rattle.std.specs.Prelude.{Result, Ok, Err}
+use Rattle.engine_base.specs.declared.refusal.Refusal.{Refusal}
 use Rattle.engine_base.specs.Address.{offset_of, within}
 use Rattle.engine_base.specs.Bytes.{word_at}
 use Rattle.engine_base.proofs.Picks.{by-test}
@@ -21,11 +23,11 @@ list_fits list r e t =
     record { fits = omega arith }
 
 -- a goto and a block word name an address in the banks, and too few block words came before the latter in its row
-abbrev pub EntryWithin : ℕ → Entry → Type 0
-EntryWithin row Entry.End = Unit {0}
-EntryWithin row (Entry.Goto target) = within target 1 ≡ true
-EntryWithin row (Entry.Block address next) = (row < row_limit) × (within address 1 ≡ true)
-EntryWithin row Entry.Refused = Unit {0}
+abbrev pub EntryWithin : ℕ → Result Entry Refusal → Type 0
+EntryWithin row (Ok Entry.End) = Unit {0}
+EntryWithin row (Ok (Entry.Goto target)) = within target 1 ≡ true
+EntryWithin row (Ok (Entry.Block address next)) = (row < row_limit) × (within address 1 ≡ true)
+EntryWithin row (Err refusal) = Unit {0}
 
 pub entry_within : (bank : List ℕ) (list row : ℕ) (by-goto : Bool) → EntryWithin row (entry_at bank list row by-goto)
 unfolding entry_at goto_at

@@ -6,16 +6,15 @@ use mathlib.Core.Path.{◌≡◌, sym, ap, ◌∙◌}
 use native.Mathlib.Nat.{sub-zero, add-zero, zero-add, add_assoc}
 use native.Mathlib.Omega.{arith}
 use lib.ListN.{length}
-use Rattle.engine_base.specs.Refusal.{past_data}
+use Rattle.engine_base.specs.declared.refusal.Refusal.{Refusal}
+use Rattle.engine_base.specs.declared.refusal.Refusal.TheVariants.{PastData}
 use Rattle.engine_base.specs.Told.{Answers}
-use Rattle.mother_format.specs.Command.{command_at}
-use Rattle.mother_format.specs.Straight.{Straight, is_end, before, straight_by, straight_from, straight, notes_of, notes_in, reading_of, told_reading}
+use Rattle.mother_format.specs.Command.{Decoded, command_at}
+use Rattle.mother_format.specs.Straight.{Finish, Straight, is_end, before, straight_by, straight_from, straight, notes_of, notes_in, reading_of, told_reading}
 use Rattle.engine_base.proofs.Picks.{answers}
 use Rattle.mother_format.specs.declared.command.Kind.{Kind}
 use Rattle.mother_format.specs.declared.command.Command.{Command}
-use Rattle.mother_format.specs.declared.command.Decoded.{Decoded}
-use Rattle.mother_format.specs.declared.straight.Finish.{Finish}
-use Rattle.mother_format.specs.declared.straight.Finish.TheVariants.{End as Ended, Refused as Faulty}
+use Rattle.std.specs.Prelude.{Ok, Err}
 
 notes_most : (c : Command) → notes_of c ≤ 1
 notes_most Command.End = omega arith
@@ -59,20 +58,20 @@ module _ (kind : Kind) (bytes : List ℕ) where
     pub more_few : (c : Command) (k : ℕ) → k ≡ notes_of c → notes + k ≤ n + 1
     more_few c k f = omega (arith, m.few, notes_most c)
 
-    pub read_past : length bytes ≤ n → Answers told_reading (record { notes = notes; finish = Faulty past_data at }) (reading_of (straight kind bytes))
+    pub read_past : length bytes ≤ n → Answers told_reading (record { notes = notes; finish = Err (PastData, at) }) (reading_of (straight kind bytes))
     unfolding straight_from
     read_past h = let none : length bytes - n ≡ 0 = omega arith in reads _ (rw none)
 
     module _ (h : n < length bytes) (r : Decoded) (q : r ≡ command_at kind bytes at) where
-      pub read_refused : (number offset : ℕ) → r ≡ Decoded.Refused number offset →
-          Answers told_reading (record { notes = notes; finish = Faulty number offset }) (reading_of (straight kind bytes))
-      read_refused number offset e = reads _ (step_is h _ (sym q ∙ e))
+      pub read_refused : (fault : Refusal × ℕ) → r ≡ Err fault →
+          Answers told_reading (record { notes = notes; finish = Err fault }) (reading_of (straight kind bytes))
+      read_refused fault e = reads _ (step_is h _ (sym q ∙ e))
 
-      pub read_end : (c : Command) (next : ℕ) → r ≡ Decoded.Found c next → is_end c ≡ true →
-          Answers told_reading (record { notes = notes; finish = Ended at }) (reading_of (straight kind bytes))
+      pub read_end : (c : Command) (next : ℕ) → r ≡ Ok (c, next) → is_end c ≡ true →
+          Answers told_reading (record { notes = notes; finish = Ok at }) (reading_of (straight kind bytes))
       read_end c next e t = reads _ (step_is h _ (sym q ∙ e) ∙ rw t)
 
-      pub read_more : (c : Command) (next : ℕ) → r ≡ Decoded.Found c next → is_end c ≡ false → (k : ℕ) → k ≡ notes_of c → Midway (n + 1) next (notes + k)
+      pub read_more : (c : Command) (next : ℕ) → r ≡ Ok (c, next) → is_end c ≡ false → (k : ℕ) → k ≡ notes_of c → Midway (n + 1) next (notes + k)
       read_more c next e t k f =
           let s : rest n at ≡ before at c (rest (n + 1) next) = step_is h _ (sym q ∙ e) ∙ rw t in
           record {

@@ -6,16 +6,14 @@ use native.Mathlib.Omega.{arith}
 use lib.ListN.{length}
 use Rattle.engine_base.specs.Refusal.{FaultWithin}
 use Rattle.mother_format.specs.Bank.{block_limit, block_of}
-use Rattle.mother_format.specs.Command.{command_at, bytes_of}
-use Rattle.mother_format.specs.Straight.{Placed, Straight, is_end, straight_by, straight_from, straight}
+use Rattle.mother_format.specs.Command.{Decoded, command_at, bytes_of}
+use Rattle.mother_format.specs.Straight.{Finish, Placed, Straight, is_end, straight_by, straight_from, straight}
 use Rattle.engine_base.proofs.Picks.{by-test}
 use Rattle.mother_format.proofs.bank.Joined.{block_within}
 use Rattle.mother_format.proofs.command.Laws.{Wants, stands}
 use Rattle.mother_format.specs.declared.command.Kind.{Kind}
 use Rattle.mother_format.specs.declared.command.Command.{Command}
-use Rattle.mother_format.specs.declared.command.Decoded.{Decoded}
-use Rattle.mother_format.specs.declared.straight.Finish.{Finish}
-use Rattle.mother_format.specs.declared.straight.Finish.TheVariants.{End as Ended, Refused as Faulty}
+use Rattle.std.specs.Prelude.{Ok, Err}
 
 pub bytes_some : (c : Command) → 0 < length (bytes_of c)
 bytes_some Command.End = omega arith
@@ -31,12 +29,12 @@ module _ (kind : Kind) (bytes : List ℕ) where
   -- each command stands where reading finds it, wholly in the data
   abbrev pub AllStand : List Placed → Type 0
   AllStand [] = Unit {0}
-  AllStand (c ∷ cs) = ((c.at + length (bytes_of c.command) ≤ length bytes) × (command_at kind bytes c.at ≡ Decoded.Found c.command (c.at + length (bytes_of c.command)))) × AllStand cs
+  AllStand (c ∷ cs) = ((c.at + length (bytes_of c.command) ≤ length bytes) × (command_at kind bytes c.at ≡ Ok (c.command, c.at + length (bytes_of c.command)))) × AllStand cs
 
   -- 00 stands in the data; a refusal is one of 10 to 15, in the data or at its end, and there if it is 15
   abbrev pub Finishes : Finish → Type 0
-  Finishes (Ended at) = at < length bytes
-  Finishes (Faulty number at) = FaultWithin (length bytes) number at × Wants bytes number at
+  Finishes (Ok at) = at < length bytes
+  Finishes (Err (refusal, at)) = FaultWithin (length bytes) refusal at × Wants bytes refusal at
 
   pub record Within (s : Straight) : Type 0 where
     pub commands : AllStand s.commands
@@ -49,14 +47,14 @@ module _ (kind : Kind) (bytes : List ℕ) where
     where
       by : ((next : ℕ) → next ≤ length bytes → length bytes ≤ next + left → Within (straight_from kind bytes left next)) →
           (d : Decoded) → command_at kind bytes at ≡ d → Within (straight_by at (λ next. straight_from kind bytes left next) d)
-      by further (Decoded.Found c next) e =
+      by further (Ok (c, next)) e =
           let (size, near, small) = stands kind bytes at e in
           let some = bytes_some c in
           let rest = further next near (omega arith) in
-          let there : command_at kind bytes at ≡ Decoded.Found c (at + length (bytes_of c)) = rw (← size) e in
+          let there : command_at kind bytes at ≡ Ok (c, at + length (bytes_of c)) = rw (← size) e in
           by-test Within (is_end c) (λ _. record { commands = tt; finish = omega arith }) λ _.
           record { commands = ((omega arith, there), rest.commands); finish = rest.finish }
-      by further (Decoded.Refused number offset) e =
+      by further (Err (refusal, offset)) e =
           let ((low, high, near), wants) = stands kind bytes at e in
           record { commands = tt; finish = ((low, high, omega arith), wants) }
 

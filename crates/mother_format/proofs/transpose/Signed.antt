@@ -4,16 +4,16 @@ use mathlib.Core.Bool.{Bool, true, false, cond}
 use mathlib.Core.Path.{◌≡◌, refl, sym, ap, subst, ◌∙◌}
 use native.Mathlib.Nat.{zero-add}
 use native.Mathlib.Omega.{arith}
-use borrow.Author.Tests.{lt-ltb, ltb-true, ltb-false, le-leb, lt-leb, ne_eqb}
-use mir.Syntax.{w8, w16}
-use mir.Val.{SFits, Fits, to_z, of_z}
+use borrow.Author.Tests.{lt-ltb, le-leb, lt-leb, ne_eqb}
+use mir.Syntax.{w16}
+use mir.Val.{SFits, to_z, of_z}
 use mir.ValLaws.{to_z-of_z}
-use lib.Dec.{T, ltb}
+use lib.Dec.{ltb}
 use lib.IntN.{ℤ, pos, negsuc, nat_abs, sub_ℕ, ◌+ℤ◌, ◌-ℤ◌}
-use lib.Signed.{lt_z, non_neg}
 use Rattle.mother_format.specs.Transpose.{amount_of, rest_key, last_key, in_table, transposed_of}
-use Rattle.engine_base.proofs.Picks.{by-test, false_true}
-use Rattle.mother_format.specs.declared.transpose.Sounding.TheVariants.{Byte, Outside}
+use Rattle.engine_base.proofs.Picks.{by-test}
+use Rattle.std.specs.Prelude.{Option, Some, None}
+use Rattle.std.specs.Int.{FitsUnsignedBits}
 
 pub read_small : (n : ℕ) → n < 256 → to_z w16 n ≡ pos n
 read_small n h = let k : n < 2 ^ 15 = omega arith in rw (lt-ltb n (2 ^ 15) k)
@@ -33,28 +33,18 @@ module _ (m : ℕ) (h : m < 256) where
   pub read_minus : to_z w16 (of_z w16 (negsuc 0 -ℤ to_z w16 m)) ≡ negsuc m
   read_minus = to_z-of_z w16 _ minus_fits ∙ minus_is
 
--- a sum by the tests of its range
-module _ (z : ℤ) where
-  below : lt_z z (pos 0) ≡ true → Outside ≡ in_table z
-  below = go z
-    where
-      go : (z : ℤ) → lt_z z (pos 0) ≡ true → Outside ≡ in_table z
-      go (pos n) t = absurd (omega (arith, ltb-true n 0 t))
-      go (negsuc n) t = refl
+-- a sum by what `u8::try_from` makes of it
+pub sounds_byte : (z : ℤ) (n : ℕ) → FitsUnsignedBits 8 z × (n ≡ nat_abs z) → n ≤ last_key → Some n ≡ in_table z
+sounds_byte (pos m) n (f, e) h = let k : m ≤ last_key = omega arith in rw (e, le-leb m last_key k)
+sounds_byte (negsuc m) n (f, e) h = absurd f
 
-  above : lt_z (pos last_key) z ≡ true → Outside ≡ in_table z
-  above = go z
-    where
-      go : (z : ℤ) → lt_z (pos last_key) z ≡ true → Outside ≡ in_table z
-      go (pos n) t = rw (lt-leb n last_key (ltb-true last_key n t))
-      go (negsuc n) t = refl
+pub too_high : (z : ℤ) (n : ℕ) → FitsUnsignedBits 8 z × (n ≡ nat_abs z) → last_key < n → None ≡ in_table z
+too_high (pos m) n (f, e) h = let k : last_key < m = omega arith in rw (lt-leb m last_key k)
+too_high (negsuc m) n (f, e) h = absurd f
 
-  not_below : lt_z z (pos 0) ≡ false → lt_z (pos last_key) z ≡ false → (T (non_neg z) × (nat_abs z ≤ last_key)) × (Byte (nat_abs z) ≡ in_table z)
-  not_below = go z
-    where
-      go : (z : ℤ) → lt_z z (pos 0) ≡ false → lt_z (pos last_key) z ≡ false → (T (non_neg z) × (nat_abs z ≤ last_key)) × (Byte (nat_abs z) ≡ in_table z)
-      go (pos n) t s = let k = ltb-false last_key n s in ((tt, k), rw (le-leb n last_key k))
-      go (negsuc n) t s = absurd (false_true (sym t))
+pub no_byte : (z : ℤ) → (FitsUnsignedBits 8 z → ⊥) → None ≡ in_table z
+no_byte (pos m) h = let k : last_key < m = omega (arith, h) in rw (lt-leb m last_key k)
+no_byte (negsuc m) h = refl
 
 module _ (b transpose : ℕ) (h : b < 256) (g : transpose < 256) where
   abbrev sum : ℤ
@@ -91,21 +81,6 @@ module _ (b transpose : ℕ) (h : b < 256) (g : transpose < 256) where
     abbrev found : ℤ
     found = to_z w16 (of_z w16 (to_z w16 b +ℤ to_z w16 (of_z w16 r)))
 
-    module _ (n : b ≡ rest_key → ⊥) where
-      pub sounds_below : lt_z found (pos 0) ≡ true → Outside ≡ transposed_of b transpose
-      unfolding transposed_of
-      sounds_below t = rw (ne_eqb b rest_key n) (below sum (rw read_sum at t))
-
-      pub sounds_above : lt_z (pos last_key) found ≡ true → Outside ≡ transposed_of b transpose
-      unfolding transposed_of
-      sounds_above t = rw (ne_eqb b rest_key n) (above sum (rw read_sum at t))
-
-      module _ (t : lt_z found (pos 0) ≡ false) (s : lt_z (pos last_key) found ≡ false) where
-        pub cast_fits : T (non_neg found) × Fits w8 (nat_abs found)
-        cast_fits =
-            let ((sign, most), same) = not_below found t s in
-            (sign, record { fits = omega arith })
-
-        pub sounds : Byte (nat_abs found) ≡ transposed_of b transpose
-        unfolding transposed_of
-        sounds = rw (ne_eqb b rest_key n) ((not_below found t s).1 ∙ ap in_table read_sum)
+    pub sounds : (s : Option ℕ) → s ≡ in_table found → (b ≡ rest_key → ⊥) → s ≡ transposed_of b transpose
+    unfolding transposed_of
+    sounds s q n = rw (ne_eqb b rest_key n) (q ∙ ap in_table read_sum)

@@ -3,15 +3,17 @@ use Prim.Native.Nat.{ℕ}
 use mathlib.Core.List.{List}
 use mathlib.Core.Path.{◌≡◌, refl}
 use lib.Dec.{eqb}
+use Rattle.std.specs.Prelude.{Result, Ok, Err}
 use Rattle.engine_base.specs.Channels.{four}
 use Rattle.engine_base.specs.declared.answer.Answer.{Answer}
+use Rattle.engine_base.specs.declared.refusal.Refusal.{Refusal}
 use Rattle.engine_base.proofs.Picks.{by-test}
 use Rattle.mother_format.specs.Header.{open_track}
 use Rattle.mother_format.specs.declared.bank.Places.{Places}
 use Rattle.mother_format.specs.declared.header.Track.{Track}
 use Rattle.mother_player.specs.Record.{stopped_player, record_fits}
 use Rattle.mother_player.specs.Event.{off_event}
-use Rattle.mother_player.specs.Frame.{Settled, settle_from, framed_by, setting_of, frame_of_track, frame_of}
+use Rattle.mother_player.specs.Frame.{Settled, settle_from, framed_by, setting_of, frame_of_track, frame_by, frame_of}
 use Rattle.mother_player.specs.declared.record.Player.{Player}
 use Rattle.mother_player.specs.declared.frame.Framed.{Framed}
 
@@ -24,8 +26,8 @@ abbrev KeptBy : Player → Framed → Answer → Type 0
 KeptBy player f Answer.Events = Unit {0}
 KeptBy player f Answer.End = Hands stopped_player f
 KeptBy player f Answer.Stopped = Hands player f × (f.counts ≡ four 0)
-KeptBy player f (Answer.Refused number) = Hands player f × (f.counts ≡ four 0)
-KeptBy player f (Answer.Fault number i at address) = Hands player f
+KeptBy player f (Answer.Refused refusal) = Hands player f × (f.counts ≡ four 0)
+KeptBy player f (Answer.Fault refusal i at address) = Hands player f
 
 abbrev pub Kept : Player → Framed → Type 0
 Kept player f = KeptBy player f f.answer
@@ -34,8 +36,8 @@ framed_kept : (player : Player) (s : Settled) (answer : Answer) → Kept player 
 framed_kept player s Answer.Events = tt
 framed_kept player s Answer.End = (refl, refl)
 framed_kept player s Answer.Stopped = ((refl, refl), refl)
-framed_kept player s (Answer.Refused number) = ((refl, refl), refl)
-framed_kept player s (Answer.Fault number i at address) = (refl, refl)
+framed_kept player s (Answer.Refused refusal) = ((refl, refl), refl)
+framed_kept player s (Answer.Fault refusal i at address) = (refl, refl)
 
 module _ (bank8 banka : List ℕ) (places : Places) where
   track_kept : (track : Track) (player : Player) → Kept player (frame_of_track bank8 banka places track player)
@@ -51,7 +53,8 @@ module _ (bank8 banka : List ℕ) (places : Places) where
 
   pub kept : (track : ℕ) (player : Player) → Kept player (frame_of bank8 banka places track player)
   unfolding frame_of
-  kept track player =
-      by-test (Kept player) (eqb (open_track bank8 banka places track).number 0)
-      (λ _. track_kept (open_track bank8 banka places track).track player) λ _.
-      ((refl, refl), refl)
+  kept track player = by (open_track bank8 banka places track)
+    where
+      by : (opened : Result Track Refusal) → Kept player (frame_by bank8 banka places player opened)
+      by (Ok opened) = track_kept opened player
+      by (Err refusal) = ((refl, refl), refl)

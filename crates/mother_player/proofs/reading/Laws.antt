@@ -2,33 +2,28 @@
 use Prim.Native.Nat.{ℕ, ◌+◌, ◌-◌, ◌<◌}
 use mathlib.Core.Bool.{Bool, false}
 use mathlib.Core.List.{List}
-use mathlib.Core.Path.{◌≡◌, refl, sym, subst, ap, ◌∙◌}
-use Rattle.engine_base.specs.Refusal.{too_many_commands}
+use mathlib.Core.Path.{◌≡◌, refl, sym, ap, subst, ◌∙◌}
+use Rattle.std.specs.Prelude.{Result, Ok}
+use Rattle.engine_base.specs.declared.refusal.Refusal.{Refusal}
+use Rattle.engine_base.specs.declared.refusal.Refusal.TheVariants.{TooManyCommands}
 use Rattle.engine_base.proofs.Fuel.{turn}
 use Rattle.mother_format.specs.Playlist.{row_limit, entry_at}
 use Rattle.mother_format.proofs.playlist.Next.{EntryWithin, entry_within}
 use Rattle.mother_format.specs.declared.bank.Places.{Places}
 use Rattle.mother_format.specs.declared.command.Kind.{Kind}
 use Rattle.mother_format.specs.declared.playlist.Entry.{Entry}
-use Rattle.mother_player.specs.Reading.{entry_step, step_at, step_from, offset_at, turn_from, read_by, read_step, read_from}
-use Rattle.mother_player.specs.declared.reading.Place.{Place}
+use Rattle.mother_player.specs.Reading.{step_from, offset_at, turn_from, read_by, read_step, read_from}
 use Rattle.mother_player.specs.declared.reading.Reader.{Reader}
 use Rattle.mother_player.specs.declared.reading.Stepped.{Stepped}
 use Rattle.mother_player.specs.declared.reading.Step.{Step}
-use Rattle.mother_player.specs.declared.reading.Turned.{Turned}
+use Rattle.engine_base.specs.declared.answer.Turned.{Turned}
 use Rattle.mother_player.specs.declared.reading.Turn.{Turn}
 
 -- found is what `entry_at` answers
-pub row_within : (bank : List ℕ) (list row : ℕ) (by-goto : Bool) (found : Entry) → found ≡ entry_at bank list row by-goto → (at word : ℕ) → found ≡ Entry.Block at word → row < row_limit
-row_within bank list row by-goto found e at word t = (subst (EntryWithin row) (sym e ∙ t) (entry_within bank list row by-goto)).0
-
-pub entry_by : (r : Reader) (found entry : Entry) → found ≡ entry → (x : Entry) → found ≡ x → entry_step r x ≡ entry_step r entry
-entry_by r found entry e x t = ap (entry_step r) (sym t ∙ e)
-
-pub step_by_lem : (bank8 banka : List ℕ) (places : Places) (kind : Kind) (r : Reader) (x : Place) → r.place ≡ x → (step : Step) →
-    step ≡ step_at bank8 banka places kind r x → step ≡ step_from bank8 banka places kind r
-unfolding step_from
-step_by_lem bank8 banka places kind r x e step q = q ∙ ap (step_at bank8 banka places kind r) (sym e)
+pub row_within : (bank : List ℕ) (list row : ℕ) (by-goto : Bool) (found : Result Entry Refusal) → found ≡ entry_at bank list row by-goto →
+    (entry : Entry) → found ≡ Ok entry → (at word : ℕ) → entry ≡ Entry.Block at word → row < row_limit
+row_within bank list row by-goto found e entry t at word b =
+    (subst (EntryWithin row) (sym e ∙ t ∙ ap Ok b) (entry_within bank list row by-goto)).0
 
 module _ (bank8 banka : List ℕ) (places : Places) (kind : Kind) (r : Reader) (count fuel : ℕ) (whole : Turn) where
   -- a turn of the reading loop; step is what `step_from` answers
@@ -54,7 +49,7 @@ module _ (bank8 banka : List ℕ) (places : Places) (kind : Kind) (r : Reader) (
       h
       w)
 
-  pub read_none : fuel ≡ 0 → read_from bank8 banka places kind fuel r count ≡ whole →
-      turn_from (Turned.Refused too_many_commands (offset_at r) 0) false r count ≡ whole
+  pub read_none : (n : ℕ) → n ≡ count → fuel ≡ 0 → read_from bank8 banka places kind fuel r count ≡ whole →
+      turn_from (Turned.Refused TooManyCommands (offset_at r) 0) false r n ≡ whole
   unfolding read_from
-  read_none e w = rw e at w
+  read_none n q e w = rw q (rw e at w)

@@ -1,18 +1,13 @@
--- What 16 tests of a sounding byte, as the code goes through it.
-use Prim.Native.Nat.{ℕ, ◌≤◌}
-use mathlib.Core.Bool.{Bool, false}
-use mathlib.Core.Path.{◌≡◌}
-use Rattle.engine_base.proofs.Picks.{pick_le}
-use Rattle.mother_format.specs.Command.{is_note}
-use Rattle.mother_format.specs.Transpose.{last_key}
-use Rattle.mother_format.specs.declared.command.Kind.{Kind}
-use Rattle.mother_format.specs.declared.command.Kind.TheVariants.{Square, Triangle}
-use Rattle.mother_player.specs.Record.{sounds_in}
+-- The channels of a header and of a record, gone through together.
+use mathlib.Core.List.{List}
+use mathlib.Core.Path.{◌≡◌, refl}
+use Rattle.std.specs.Prelude.{Option}
+use Rattle.std.specs.List.{list_all, zip}
+use Rattle.engine_base.proofs.Channels.{all_zipped}
+use Rattle.mother_format.specs.declared.header.Voice.{Voice}
+use Rattle.mother_player.specs.Record.{channel_fits, channels_fit}
+use Rattle.mother_player.specs.declared.record.Channel.{Channel}
 
--- r is what `is_note` answers
-module _ (k : Kind) (b : ℕ) (r : Bool) (h : b ≤ last_key) (q : r ≡ is_note k b) where
-  pub square_sounds : k ≡ Square → r ≡ sounds_in k b
-  square_sounds e = rw e (pick_le b last_key _ false r h (rw e at q))
-
-  pub triangle_sounds : k ≡ Triangle → r ≡ sounds_in k b
-  triangle_sounds e = rw e (pick_le b last_key _ false r h (rw e at q))
+pub fits_zipped : (vs : List (Option Voice)) (cs : List Channel) →
+    list_all (λ (p : Option Voice × Channel). channel_fits p.0 p.1) (zip vs cs) ≡ channels_fit vs cs
+fits_zipped = all_zipped channel_fits channels_fit (λ _. refl) (λ _ _. refl) (λ _ _ _ _. refl)

@@ -1,8 +1,6 @@
-use Rattle.metroid_text.proofs.line.Laws.{spelled_counts, spelled_whole}
+use native.Mathlib.Omega.{arith}
+use Rattle.metroid_text.proofs.line.Laws.{spelled_whole}
 use Rattle.mothercheck.proofs.line_of.Goals as goal
 
 pub returns : goal.returns
-returns c =
-    let s = c.line.ensures in
-    let room = c.requires in
-    record { prefix_len = spelled_counts s room; out_after = rw (← c.verdict_of.ensures) (spelled_whole s room) }
+returns c = rw (← c.verdict_of-verdict.ensures) (spelled_whole c.line-n.ensures (omega arith))

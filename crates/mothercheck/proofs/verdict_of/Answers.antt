@@ -13,4 +13,4 @@ rest l = take_all (length l) (drop bank_size l) (simp length-drop (omega arith))
 pub returns : goal.returns
 returns c =
     c.check.ensures.answer.same
-    ∙ rw (c.part-bank8.ensures, c.part-banka.ensures, rest _, c.published_places.ensures)
+    ∙ rw (c.part.ensures, c.part-2.ensures, rest _, c.published_places.ensures)

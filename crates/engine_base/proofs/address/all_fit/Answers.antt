@@ -1,26 +1,15 @@
-use Prim.Native.Nat.{ℕ}
-use mathlib.Core.Path.{refl}
-use native.Mathlib.Numerals.{add-one}
-use native.Mathlib.Omega.{arith}
-use lib.ListN.{drop_of_length-le}
-use lib.Seq.{drop-cons}
-use Rattle.engine_base.proofs.Picks.{guards}
+use mathlib.Core.Path.{refl, ◌∙◌}
+use Rattle.std.proofs.Common.{rules}
+use borrow.Author.Tests.{tests}
+use Rattle.std.proofs.lemmas.Iterator.{YieldsList-from_slice, YieldsList-from_zip}
+use Rattle.std.proofs.lemmas.Iterator.Search.{all_from_yields_List}
+use Rattle.engine_base.proofs.Channels.{all_zipped}
+use Rattle.engine_base.specs.Address.{within, all_within}
 use Rattle.engine_base.proofs.address.all_fit.Goals as goal
 
-pub loop-i-init : goal.loop-i-init
-loop-i-init c = (omega arith, refl)
-
-pub returns-then-sizes-i : goal.returns-then-sizes-i
-returns-then-sizes-i c = rw (← c.loop-i.invariant.1, drop-cons {A = ℕ} _ _ 0 c.loop-i-test.true, drop_of_length-le {A = ℕ} _ c.if-sizes-i.true)
-
-pub returns-then-not-fits : goal.returns-then-not-fits
-returns-then-not-fits c = rw (← c.loop-i.invariant.1, drop-cons {A = ℕ} _ _ 0 c.loop-i-test.true, drop-cons {A = ℕ} _ _ 0 c.if-sizes-i.false) (search guards depth 12)
-
-pub loop-i-preserved : goal.loop-i-preserved
-loop-i-preserved c = (
-  omega (arith, c.loop-i-test.true),
-  rw (add-one, ← c.loop-i.invariant.1, drop-cons {A = ℕ} _ _ 0 c.loop-i-test.true, drop-cons {A = ℕ} _ _ 0 c.if-sizes-i.false) (search guards depth 12),
-)
-
 pub returns : goal.returns
-returns c = rw (← c.loop-i.invariant.1, drop_of_length-le {A = ℕ} _ c.loop-i-test.false)
+returns c =
+    all_from_yields_List (λ p. within p.0 p.1) c.all.new.self _ c.all.result c.all.ensures.ran
+    (YieldsList-from_zip (YieldsList-from_slice c.args.addresses.now (cc)) (YieldsList-from_slice c.args.sizes.now (cc)))
+    (λ x b q k. search (rules, tests))
+    ∙ all_zipped within all_within (λ _. refl) (λ _ _. refl) (λ _ _ _ _. refl) c.args.addresses.now c.args.sizes.now

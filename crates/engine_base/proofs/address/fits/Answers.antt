@@ -1,30 +1,32 @@
-use Prim.Native.Nat.{◌+◌, ◌≤◌, ◌<◌}
+use Prim.Native.Nat.{ℕ, ◌+◌, ◌-◌, ◌≤◌, ◌<◌}
+use mathlib.Core.Bool.{Bool, true, false}
+use mathlib.Core.Path.{◌≡◌, refl}
+use lib.Dec.{leb}
+use borrow.Author.Tests.{le-leb, lt-leb, leb-true, leb-false}
 use native.Mathlib.Omega.{arith}
 use Rattle.engine_base.specs.Address.{within, bank_end}
-use Rattle.engine_base.proofs.Picks.{picks}
+use Rattle.engine_base.proofs.Picks.{picks, pick_le, pick_last}
 use Rattle.engine_base.proofs.address.fits.Goals as goal
+use Rattle.engine_base.proofs.address.fits.Goals.{then-address-ge-BANK_START, else-address-ge-BANK_START}
 
-pub returns-then-address-lt-BANK_START : goal.returns-then-address-lt-BANK_START
-unfolding within
-returns-then-address-lt-BANK_START c = search picks depth 12
+room : (address n : ℕ) (b : Bool) → address ≤ bank_end → leb (address + n) bank_end ≡ b → leb n (bank_end - address) ≡ b
+room address n true h e = le-leb n (bank_end - address) (omega (arith, leb-true _ _ e))
+room address n false h e = lt-leb n (bank_end - address) (omega (arith, leb-false _ _ e))
 
-pub returns-then-address-gt-BANK_END : goal.returns-then-address-gt-BANK_END
+pub returns-then-address-le-BANK_END : goal.returns-then-address-le-BANK_END
 unfolding within
-returns-then-address-gt-BANK_END c =
+returns-then-address-le-BANK_END c =
     let a = c.args in
-    let h : bank_end < a.address + a.n = omega arith in
-    search picks depth 12
+    let (low, high) = c.if-address-le-BANK_END.true in
+    pick_le _ _ _ _ _ low (pick_last _ _ (room a.address a.n _ high refl))
 
-pub returns-then-address-n : goal.returns-then-address-n
+pub returns-else-address-le-BANK_END : goal.returns-else-address-le-BANK_END
 unfolding within
-returns-then-address-n c =
+returns-else-address-le-BANK_END c =
     let a = c.args in
-    let h : bank_end < a.address + a.n = omega arith in
-    search picks depth 12
-
-pub returns : goal.returns
-unfolding within
-returns c =
-    let a = c.args in
-    let h : a.address + a.n ≤ bank_end = omega arith in
-    search picks depth 12
+    elim c.if-address-ge-BANK_START.branch [
+      | then-address-ge-BANK_START w ↦
+          let h : bank_end < a.address + a.n = omega arith in
+          search picks depth 12
+      | else-address-ge-BANK_START w ↦ search picks depth 12
+    ]

@@ -14,4 +14,4 @@ returns-then-bytes-at c =
 
 pub returns : goal.returns
 unfolding word_at
-returns c = simp (c.byte-2.ensures, c.byte.ensures)
+returns c = omega (arith, c.from_le_bytes.ensures, c.byte.ensures, c.byte-2.ensures)

@@ -1,31 +1,27 @@
 use Prim.Native.Nat.{ℕ}
-use native.Mathlib.Numerals.{add-one}
-use native.Mathlib.Omega.{arith}
-use borrow.Author.Tests.{eq-eqb, ne_eqb}
-use lib.ListN.{drop_of_length-le}
-use lib.Seq.{drop-cons}
+use mathlib.Core.Bool.{Bool, true, false}
+use mathlib.Core.List.{List, [], ◌∷◌}
+use mathlib.Core.Path.{◌≡◌, refl, ◌∙◌}
+use Rattle.std.proofs.Common.{rules, ◌||◌, eqb}
+use Rattle.std.specs.List.{list_any}
+use borrow.Author.Tests.{tests}
+use Rattle.std.proofs.lemmas.Iterator.{YieldsList-from_slice}
+use Rattle.std.proofs.lemmas.Iterator.Search.{any_from_yields_List}
+use Rattle.engine_base.specs.Pick.{pick}
+use Rattle.engine_base.specs.Envelope.{shows_end}
 use Rattle.engine_base.proofs.envelope.shows_end.Goals as goal
 
-pub returns-then-b : goal.returns-then-b
-returns-then-b c =
-    let h = c.loop-i-test.true in
-    let e = c.loop-i.invariant.1 in
-    rw (← e, drop-cons {A = ℕ} _ _ 0, eq-eqb _ _ c.if-b.true)
+ends : ℕ → Bool
+ends b = eqb b 0xf0 || eqb b 0xff
 
-pub returns-then-b-2 : goal.returns-then-b-2
-returns-then-b-2 c =
-    let h = c.loop-i-test.true in
-    let e = c.loop-i.invariant.1 in
-    rw (← e, drop-cons {A = ℕ} _ _ 0, ne_eqb _ _ c.if-b.false, eq-eqb _ _ c.if-b-2.true)
+either : (p q r s : Bool) → r ≡ s → ((p || q) || r) ≡ pick p true (pick q true s)
+either true q r s e = refl
+either false true r s e = refl
+either false false r s e = e
 
-pub loop-i-preserved : goal.loop-i-preserved
-loop-i-preserved c =
-    let h = c.loop-i-test.true in
-    let e = c.loop-i.invariant.1 in
-    (omega arith, rw (← e, add-one, drop-cons {A = ℕ} _ _ 0 h, ne_eqb _ _ c.if-b.false, ne_eqb _ _ c.if-b-2.false))
+any_ends : (bytes : List ℕ) → list_any (λ b. eqb b 0xf0 || eqb b 0xff) bytes ≡ shows_end bytes
+any_ends [] = refl
+any_ends (b ∷ rest) = either (eqb b 0xf0) (eqb b 0xff) _ _ (any_ends rest)
 
 pub returns : goal.returns
-returns c =
-    let h = c.loop-i-test.false in
-    let e = c.loop-i.invariant.1 in
-    rw (← e, drop_of_length-le)
+returns c = any_from_yields_List (λ b. eqb b 0xf0 || eqb b 0xff) _ _ _ c.any.ensures.ran (YieldsList-from_slice c.args.bytes.now cc) (λ x b q k. search (rules, tests)) ∙ any_ends c.args.bytes.now

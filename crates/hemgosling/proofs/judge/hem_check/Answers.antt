@@ -1,8 +1,8 @@
-use Rattle.hemgosling.proofs.judge.Laws.{verdict_placed, judges}
+use Rattle.metroid_format.specs.Header.{header_of, channel_start}
+use Rattle.metroid_check.proofs.verdict.Place.{verdict_within}
 use Rattle.hemgosling.proofs.judge.hem_check.Goals as goal
 
-pub tell-requires : goal.tell-requires
-tell-requires c = verdict_placed _ _ _ _ c.check.ensures.answer.same
-
-pub returns : goal.returns
-returns c = rw (← c.places_of-found.ensures) (judges _ _ _ _ _ _ _ c.check.ensures c.tell.ensures)
+pub tell_verdict-requires : goal.tell_verdict-requires
+tell_verdict-requires c =
+    let found = c.places_of-places.result in
+    (channel_start (header_of c.args.bank.now found c.args.track), rw c.check.ensures.answer.same (verdict_within _ _ _))

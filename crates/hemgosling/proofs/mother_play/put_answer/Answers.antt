@@ -1,5 +1,13 @@
-use Rattle.hemgosling.proofs.tell.Laws.{behind_head}
+use mathlib.Core.Path.{◌≡◌, refl, ◌∙◌}
+use borrow.Author.Rules.{rules}
+use Rattle.mother_player.specs.Event.{told_event}
+use Rattle.mother_player.specs.Frame.{told_events}
+use Rattle.hemgosling.proofs.tell.Laws.{behind_head, flat_words}
 use Rattle.hemgosling.proofs.mother_play.put_answer.Goals as goal
 
 pub returns : goal.returns
-returns c = behind_head c.args.answer c.args.counts c.args.out.now _ _ c.put_head.ensures _ c.put_events.ensures c.well_formed.1.1.0.1.0.1
+returns c =
+    let framed = c.args.framed in
+    let words : c.as_flattened.result.now ≡ told_events framed.events =
+    c.as_flattened.ensures.value ∙ flat_words _ told_event (λ f e words f' k. search rules) told_events refl (λ _ _. refl) _ _ (search rules) c.map.ensures.items in
+    behind_head framed.answer framed.counts _ _ _ c.put_head.ensures _ (rw words at c.fill.ensures) (search rules)

@@ -1,20 +1,18 @@
-use native.Mathlib.Omega.{arith}
-use Rattle.metroid_format.proofs.channel.Ruled.{plays_fault, plays_unfit, plays_length}
+use Rattle.metroid_format.proofs.channel.Ruled.{plays_fault, plays_after}
 use Rattle.metroid_format.proofs.channel.length_played.Goals as goal
 
-pub returns-then-fault-ne0 : goal.returns-then-fault-ne0
-returns-then-fault-ne0 c current =
+pub returns-in-Err : goal.returns-in-Err
+returns-in-Err c current =
     let p = c.requires in
-    rw c.address_at.ensures
-    (plays_fault _ _ _ _ _ _ current p.1 _ p.2 p.3 _ c.length_fault-fault.ensures (λ z. omega arith))
+    rw c.refused.ensures (plays_fault _ _ _ _ _ _ current p.1 _ p.2 p.3 _ c.in-Err.ensures)
 
-pub returns-then-unfit-ne0 : goal.returns-then-unfit-ne0
-returns-then-unfit-ne0 c current =
+pub returns-in-Ok-note_at : goal.returns-in-Ok-note_at
+returns-in-Ok-note_at c current =
     let p = c.requires in
-    rw c.address_at-then-unfit-ne0.ensures
-    (plays_unfit _ _ _ _ _ _ current p.1 _ p.2 p.3 _ c.length_fault-fault.ensures (omega arith) _ c.note_fault-unfit.ensures c.if-unfit-ne0.true)
+    let (fit, length) = c.in-Ok.ensures in
+    rw length (plays_after _ _ _ _ _ _ current p.1 _ p.2 p.3 fit _ (c.in-Ok-note_at.ensures.1 c.args.l))
 
-pub returns : goal.returns
-returns c current =
+pub returns-in-Err-note_at : goal.returns-in-Err-note_at
+returns-in-Err-note_at c current =
     let p = c.requires in
-    plays_length _ _ _ _ _ _ current p.1 _ p.2 p.3 _ c.length_fault-fault.ensures (omega arith) _ c.note_fault-unfit.ensures c.if-unfit-ne0.false _ _ c.byte-note.ensures c.byte-count.ensures
+    rw c.refused-in-Err-note_at.ensures (plays_after _ _ _ _ _ _ current p.1 _ p.2 p.3 c.in-Ok.ensures.0 _ (c.in-Err-note_at.ensures c.args.l))

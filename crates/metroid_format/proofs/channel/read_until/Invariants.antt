@@ -1,4 +1,4 @@
-use Prim.Native.Nat.{ℕ, ◌-◌, ◌≤◌}
+use Prim.Native.Nat.{ℕ, ◌-◌}
 use mathlib.Core.Path.{◌≡◌}
 use Rattle.engine_base.specs.Address.{address_of}
 use Rattle.metroid_format.specs.Command.{data_limit}
@@ -10,9 +10,6 @@ fuel = fuel_of data_limit
 
 -- the rest, read from here, gives the whole
 abbrev pub invariant-loop-count : goal.invariant-loop-count
-invariant-loop-count l = (l.count ≤ fuel) ×
-    (read_from (source_of l.kind l.data l.lengths l.window (address_of l.base)) (fuel - l.count) l.cursor l.count ≡
-    read_until data_limit (source_of l.kind l.data l.lengths l.window (address_of l.base)) l.initial.cursor)
-
-abbrev pub decreases-loop-count : goal.decreases-loop-count
-decreases-loop-count l = fuel - l.count
+invariant-loop-count l =
+    read_from (source_of l.source.kind l.source.bytes.now l.source.lengths.now l.source.window (address_of l.source.base)) (fuel - l.count) l.cursor l.count ≡
+    read_until data_limit (source_of l.source.kind l.source.bytes.now l.source.lengths.now l.source.window (address_of l.source.base)) l.initial.cursor

@@ -1,13 +1,7 @@
 use native.Mathlib.Omega.{arith}
 use borrow.Author.Rules.{rules}
-use Rattle.metroid_format.proofs.mend.Laws.{listing_none, listing_more, listing_all}
+use Rattle.metroid_format.proofs.mend.Laws.{listing_more, listing_all}
 use Rattle.metroid_format.proofs.mend.list_changes.Goals as goal
-
-pub loop-i-init : goal.loop-i-init
-loop-i-init c = listing_none _ _ _
-
-pub bounds-after-i : goal.bounds-after-i
-bounds-after-i c = omega (arith, c.requires.1)
 
 pub list_change-n-requires : goal.list_change-n-requires
 list_change-n-requires c = (search rules, omega (arith, c.requires.0))

@@ -1,10 +1,9 @@
-use Prim.Native.Nat.{ℕ, ◌≤◌}
-use native.Mathlib.Omega.{arith}
-use lib.Seq.{take-take}
-use Rattle.metroid_format.specs.Command.{data_limit}
+use mathlib.Core.Path.{ap, ◌∙◌}
+use Rattle.metroid_format.specs.Timeline.{timeline_of}
+use Rattle.metroid_format.proofs.channel.Sourced.{source_cut}
 use Rattle.metroid_format.proofs.timeline.channel_timeline.Goals as goal
 
 pub returns : goal.returns
 returns c =
-    let same : data_limit ≤ data_limit = omega arith in
-    rw (c.timeline_of.ensures.answer.same, c.part-2.ensures, c.part.ensures, take-take {A = ℕ} data_limit data_limit)
+    let a = c.args in
+    c.timeline_of.ensures.answer.same ∙ ap timeline_of (source_cut a.bank.now a.track a.voice _ c.source_at.ensures)

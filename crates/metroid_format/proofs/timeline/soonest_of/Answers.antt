@@ -5,7 +5,7 @@ use Rattle.metroid_format.proofs.timeline.FirstStop.{look_on, looked}
 use Rattle.metroid_format.proofs.timeline.soonest_of.Goals as goal
 
 pub loop-i-init : goal.loop-i-init
-loop-i-init c = record { within = search rules; four = c.well_formed.1.0.1.1.1.1.1.1.1.1.0.1.0.1; same = refl }
+loop-i-init c = record { four = search rules; same = refl }
 
 pub loop-i-preserved : goal.loop-i-preserved
 loop-i-preserved c = search look_on depth 8

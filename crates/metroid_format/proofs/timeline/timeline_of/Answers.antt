@@ -6,49 +6,33 @@ use Rattle.metroid_format.specs.Timeline.{timeline_of}
 use Rattle.metroid_format.proofs.timeline.PassLoop.{pass_turn, pass_none, pass_bounded, timed}
 use Rattle.metroid_format.proofs.timeline.timeline_of.Goals as goal
 
-pub loop-n-init : goal.loop-n-init
+pub loop-init : goal.loop-init
 unfolding timeline_of
-loop-n-init c = (omega arith, omega arith, rw sub-zero)
+loop-init c = (omega arith, rw sub-zero)
 
-pub pass_on-passed-requires : goal.pass_on-passed-requires
+pub pass_on-requires : goal.pass_on-requires
 unfolding timeline_of
-pass_on-passed-requires c =
-    let cut = simp length-take at (ap length c.part-data.ensures) in
+pass_on-requires c =
+    let cut = simp length-take at (ap length c.part.ensures) in
     (omega (arith, cut), omega (arith, cut))
 
-pub loop-n-preserved : goal.loop-n-preserved
+pub loop-preserved : goal.loop-preserved
 unfolding timeline_of
-loop-n-preserved c = (
-  omega arith,
-  pass_bounded _ _
-      (λ i. omega (arith, c.shared_slice_known-2-1.given i))
-      c.loop-n.invariant.1
-      _
-      _
-      c.pass_on-passed.ensures
-      c.in-On.is,
-  pass_turn _ _ _ _ _ _ _
-      c.pass_on-passed.ensures
-      c.in-On.is
-      (omega (arith, c.loop-n-test.true))
-      c.loop-n.invariant.2,
+loop-preserved c = (
+  pass_bounded _ _ c.loop.invariant.0 _ _ c.pass_on.ensures c.in-Ok.is (omega arith),
+  pass_turn _ _ _ _ _ _ _ c.pass_on.ensures c.in-Ok.is c.loop-test.true c.loop.invariant.1,
 )
 
-pub returns-in-Finished : goal.returns-in-Finished
+pub returns-in-Err : goal.returns-in-Err
 unfolding timeline_of
-returns-in-Finished c =
-    rw (← c.part-data.ensures)
+returns-in-Err c =
+    rw (← c.part.ensures)
     (timed _ _
-    (pass_turn _ _ _ _ _ _ _
-    c.pass_on-passed.ensures
-    c.in-Finished.is
-    (omega (arith, c.loop-n-test.true))
-    c.loop-n.invariant.2)
-    (omega (arith, c.loop-n.invariant.1)))
+    (pass_turn _ _ _ _ _ _ _ c.pass_on.ensures c.in-Err.is c.loop-test.true c.loop.invariant.1)
+    (omega (arith, c.loop.invariant.0)))
 
 pub returns : goal.returns
 unfolding timeline_of
 returns c =
-    let loop = c.loop-n in
-    rw (← c.part-data.ensures, c.address_at.ensures)
-    (timed _ _ (pass_none _ _ _ _ (omega arith) loop.invariant.2) (omega (arith, loop.invariant.1)))
+    rw (← c.part.ensures, c.address_at.ensures)
+    (timed _ _ (pass_none _ _ _ _ (omega arith) c.loop.invariant.1) (omega (arith, c.loop.invariant.0)))

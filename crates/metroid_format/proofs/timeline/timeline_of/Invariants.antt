@@ -1,4 +1,4 @@
-use Prim.Native.Nat.{◌+◌, ◌-◌, ◌≤◌}
+use Prim.Native.Nat.{◌+◌, ◌-◌}
 use mathlib.Core.Path.{◌≡◌}
 use lib.ListN.{length}
 use Rattle.engine_base.specs.Address.{address_of}
@@ -7,10 +7,7 @@ use Rattle.metroid_format.specs.Timeline.{pass_from, timeline_of}
 use Rattle.metroid_format.proofs.timeline.PassBound.{Bounded}
 use Rattle.metroid_format.proofs.timeline.timeline_of.Given as goal
 
-abbrev pub invariant-loop-n : goal.invariant-loop-n
-invariant-loop-n l = (l.n ≤ length l.data + 1) ×
-    Bounded (source_of l.kind l.data l.lengths l.window (address_of l.base)) l.pass ×
-    (pass_from (source_of l.kind l.data l.lengths l.window (address_of l.base)) (length l.data + 1 - l.n) l.pass ≡ timeline_of (source_of l.kind l.data l.lengths l.window (address_of l.base)))
-
-abbrev pub decreases-loop-n : goal.decreases-loop-n
-decreases-loop-n l = length l.data + 1 - l.n
+abbrev pub invariant-loop : goal.invariant-loop
+invariant-loop l =
+    Bounded (source_of l.source.kind l.source.bytes.now l.source.lengths.now l.source.window (address_of l.source.base)) l.pass ×
+    (pass_from (source_of l.source.kind l.source.bytes.now l.source.lengths.now l.source.window (address_of l.source.base)) (length l.source.bytes.now + 1 - l.counter) l.pass ≡ timeline_of (source_of l.source.kind l.source.bytes.now l.source.lengths.now l.source.window (address_of l.source.base)))

@@ -1,24 +1,28 @@
-use Rattle.engine_base.proofs.Buffers.{same_length}
-use Rattle.metroid_format.proofs.words.Laws.{halfway_none, halfway_more, encodes_past, encodes_refused, encodes_end, bytes_fit}
+use Rattle.metroid_format.proofs.words.Laws.{halfway_more, encodes_past, encodes_refused, encodes_end, encodes_early, bytes_fit}
 use Rattle.metroid_format.proofs.words.encode.Goals as goal
 
-pub loop-i-init : goal.loop-i-init
-loop-i-init c = halfway_none _ _ _
-
-pub returns-then-size-eq0 : goal.returns-then-size-eq0
-returns-then-size-eq0 c = search encodes_refused depth 12
+pub returns-in_default : goal.returns-in_default
+returns-in_default c =
+    let i = encodes_refused _ _ _ _ _ _ c.loop-i.invariant c.loop-i-test.true _ c.command_of_word.ensures _ _ c.in_default.is in
+    record { valid = i.valid; written = i.written }
 
 pub overflow_add-n : goal.overflow_add-n
-overflow_add-n c = search bytes_fit depth 10
+overflow_add-n c = search bytes_fit depth 12
 
-pub shape_of-out-then-size : goal.shape_of-out-then-size
-shape_of-out-then-size c = search same_length depth 8
+pub returns-then-i-words : goal.returns-then-i-words
+returns-then-i-words c =
+    let e = encodes_end _ _ _ _ _ _ c.loop-i.invariant c.loop-i-test.true _ c.command_of_word.ensures _ _ c.in-Ok.is _ c.put_pair.ensures _ c.is_end.ensures c.if-is_end.true c.if-i-words.true in
+    record { valid = e; written = e.filled }
 
-pub returns-then-size : goal.returns-then-size
-returns-then-size c = search encodes_end depth 14
+pub returns-else-i-words : goal.returns-else-i-words
+returns-else-i-words c =
+    let i = encodes_early _ _ _ _ _ _ c.loop-i.invariant c.loop-i-test.true _ c.command_of_word.ensures _ _ c.in-Ok.is _ c.put_pair.ensures _ c.is_end.ensures c.if-is_end.true c.if-i-words.false in
+    record { valid = i.valid; written = i.written }
 
 pub loop-i-preserved : goal.loop-i-preserved
 loop-i-preserved c = search halfway_more depth 14
 
 pub returns : goal.returns
-returns c = search encodes_past
+returns c =
+    let i = encodes_past _ _ _ _ _ _ c.loop-i.invariant c.loop-i-test.false in
+    record { valid = i.valid; written = i.written }

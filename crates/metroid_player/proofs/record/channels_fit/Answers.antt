@@ -1,17 +1,17 @@
-use mathlib.Core.Path.{refl}
-use borrow.Author.Rules.{rules}
-use Rattle.engine_base.proofs.Channels.{fit_more, fit_not, fit_all}
+use Rattle.std.specs.Prelude.{Option}
+use Rattle.std.proofs.Common.{rules, tests, ◌∙◌}
+use Rattle.std.proofs.lemmas.Iterator.{YieldsList-from_slice, YieldsList-from_zip}
+use Rattle.std.proofs.lemmas.Iterator.Search.{all_from_yields_List}
+use Rattle.metroid_format.specs.declared.header.Voice.{Voice}
+use Rattle.metroid_player.specs.declared.record.Channel.{Channel}
 use Rattle.metroid_player.specs.Record.{channel_fits}
+use Rattle.metroid_player.proofs.record.Laws.{fits_zipped}
 use Rattle.metroid_player.proofs.record.channels_fit.Goals as goal
 
-pub loop-i-init : goal.loop-i-init
-loop-i-init c = record { within = search rules; voices = search rules; channels = search rules; same = refl }
-
-pub loop-i-preserved : goal.loop-i-preserved
-loop-i-preserved c = fit_more _ _ _ _ c.loop-i.invariant channel_fits (λ _ _ _ _. refl) c.loop-i-test.true _ _ _ c.channel_fits.ensures c.if-channel_fits.true
-
-pub returns-else-channel_fits : goal.returns-else-channel_fits
-returns-else-channel_fits c = fit_not _ _ _ _ c.loop-i.invariant channel_fits (λ _ _ _ _. refl) c.loop-i-test.true _ _ _ c.channel_fits.ensures c.if-channel_fits.false
-
 pub returns : goal.returns
-returns c = fit_all _ _ _ _ c.loop-i.invariant (λ _. refl) c.loop-i-test.false
+returns c =
+    let a = c.args in
+    all_from_yields_List (λ (p : Option Voice × Channel). channel_fits p.0 p.1) c.all.new.self _ c.all.result c.all.ensures.ran
+    (YieldsList-from_zip (YieldsList-from_slice a.voices cc) (YieldsList-from_slice a.channels cc))
+    (λ x b q k. search (rules, tests))
+    ∙ fits_zipped a.voices a.channels

@@ -1,13 +1,14 @@
+use mathlib.Core.Path.{◌∙◌}
+use native.Mathlib.Omega.{arith}
 use borrow.Author.Rules.{rules}
-use Rattle.metroid_text.proofs.line.Laws.{putting_none}
-use Rattle.metroid_text.proofs.answer.Laws.{events_more, events_done}
+use Rattle.metroid_text.proofs.answer.Laws.{events_more, events_done, widened}
 use Rattle.metroid_text.proofs.answer.put_events.Goals as goal
 
-pub loop-i-init : goal.loop-i-init
-loop-i-init c = (search rules, putting_none _ _ _ _ _)
-
-pub loop-i-preserved : goal.loop-i-preserved
-loop-i-preserved c = (search rules, search events_more depth 12)
+pub loop-event-preserved : goal.loop-event-preserved
+loop-event-preserved c =
+    let p = c.loop-event.invariant in
+    let numbers = widened _ (λ f x y f' k. search rules) _ _ (search rules) c.map.ensures.items ∙ c.told.ensures in
+    (p.0, events_more p.0 p.1 (omega arith) _ _ (search rules) numbers c.put_group.ensures)
 
 pub returns : goal.returns
 returns c = search events_done depth 8

@@ -1,6 +1,8 @@
+use mathlib.Core.Path.{refl}
 use native.Mathlib.Omega.{arith}
-use Rattle.metroid_text.proofs.line.Laws.{puts_then, spelled}
+use borrow.Author.Rules.{rules}
+use Rattle.metroid_text.proofs.line.Laws.{writes_then, spelled}
 use Rattle.metroid_text.proofs.mother.line.Goals as goal
 
 pub returns : goal.returns
-returns c = spelled (puts_then (puts_then c.put_track-told.ensures c.append-next.ensures) c.put.ensures) (omega arith)
+returns c = spelled (writes_then (writes_then c.put_track.ensures c.text.ensures) c.put.ensures) refl (search rules) (omega arith)

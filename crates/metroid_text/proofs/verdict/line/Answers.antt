@@ -1,6 +1,10 @@
+use mathlib.Core.Path.{refl}
 use native.Mathlib.Omega.{arith}
-use Rattle.metroid_text.proofs.line.Laws.{puts_then, spelled}
+use borrow.Author.Rules.{rules}
+use Rattle.metroid_text.proofs.line.Laws.{writes_then, spelled}
 use Rattle.metroid_text.proofs.verdict.line.Goals as goal
 
 pub returns : goal.returns
-returns c = spelled (puts_then (puts_then c.put-told.ensures c.append-next.ensures) c.put.ensures) (omega arith)
+returns c =
+    rw (← c.from.ensures)
+    (spelled (writes_then (writes_then c.decimal.ensures c.text.ensures) c.put.ensures) refl (search rules) (omega arith))

@@ -1,5 +1,5 @@
-use Rattle.metroid_text.proofs.line.Laws.{puts_then}
+use Rattle.metroid_text.proofs.line.Laws.{writes_then}
 use Rattle.metroid_text.proofs.verdict.put.Goals as goal
 
 pub returns : goal.returns
-returns c = puts_then c.put_words-told.ensures c.append.ensures
+returns c = writes_then c.put_words.ensures c.text.ensures

@@ -1,5 +1,5 @@
-use Rattle.metroid_text.proofs.line.Laws.{puts_then}
+use Rattle.metroid_text.proofs.line.Laws.{writes_then}
 use Rattle.metroid_text.proofs.verdict.put_sentence.Goals as goal
 
 pub returns : goal.returns
-returns c = puts_then c.append-said.ensures c.spaced.ensures
+returns c = writes_then c.text.ensures c.spaced.ensures

@@ -1,10 +1,5 @@
-use Prim.Native.Nat.{◌-◌}
-use lib.ListN.{length}
 use Rattle.mother_check.proofs.faults.Laws.{Midblock}
 use Rattle.mother_check.proofs.faults.block_read.Given as goal
 
-abbrev pub invariant-loop-n : goal.invariant-loop-n
-invariant-loop-n l = Midblock l.bank8 l.banka l.places l.kind l.start l.site l.extremes l.sized l.progress l.at l.n
-
-abbrev pub decreases-loop-n : goal.decreases-loop-n
-decreases-loop-n l = length l.block - l.n
+abbrev pub invariant-loop : goal.invariant-loop
+invariant-loop l = Midblock l.fn.visit.source.banks.bank8.now l.fn.visit.source.banks.banka.now l.fn.visit.source.places l.fn.visit.source.kind l.fn.visit.source.start l.fn.visit.site l.fn.visit.extremes l.sized l.progress l.at l.counter

@@ -1,15 +1,8 @@
-use Prim.Native.Nat.{◌-◌, ◌%◌}
-use mathlib.Core.Path.{ap}
-use native.Mathlib.Numerals.{add-one}
-use borrow.Author.Tests.{lt-ltb, le-ltb}
-use lib.Dec.{eqb}
-use Rattle.mother_format.specs.Transpose.{amount_of, is_odd}
+use mir.Syntax.{w16}
+use mir.ValLaws.{to_z-of_z}
+use Rattle.mother_format.specs.Transpose.{is_odd}
 use Rattle.mother_format.proofs.transpose.is_odd.Goals as goal
 
-pub returns-then-b-lt128 : goal.returns-then-b-lt128
-unfolding is_odd amount_of
-returns-then-b-lt128 c = rw (lt-ltb _ _ c.if-b-lt128.true)
-
 pub returns : goal.returns
-unfolding is_odd amount_of
-returns c = rw (le-ltb _ _ c.if-b-lt128.false) (ap (λ n. eqb (n % 2) 1) (add-one (c.args.b - 0x80)))
+unfolding is_odd
+returns c = rw (c.unsigned_abs.ensures.value, to_z-of_z w16 c.amount.result (record { sfits = c.amount.type_inv }), c.amount.ensures)

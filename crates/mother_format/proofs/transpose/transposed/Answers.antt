@@ -1,29 +1,15 @@
 use native.Mathlib.Omega.{arith}
-use Rattle.mother_format.specs.Transpose.{transposed_of}
-use Rattle.engine_base.proofs.Picks.{picks}
-use Rattle.mother_format.proofs.transpose.Signed.{add_fits, sounds_below, sounds_above, cast_fits, sounds}
+use Rattle.mother_format.proofs.transpose.Signed.{sounds_byte, too_high, no_byte, add_fits, sounds}
 use Rattle.mother_format.proofs.transpose.transposed.Goals as goal
 
-pub returns-then-b-eq-REST : goal.returns-then-b-eq-REST
-unfolding transposed_of
-returns-then-b-eq-REST c = search picks depth 12
+pub overflow_add-from : goal.overflow_add-from
+overflow_add-from c = rw c.from.ensures (add_fits _ _ (omega (arith, c.ranges.b.fits)) (omega (arith, c.ranges.transpose.fits)) _ c.amount.ensures)
 
-pub overflow_add-sum : goal.overflow_add-sum
-unfolding transposed_of
-overflow_add-sum c = add_fits c.args.b c.args.transpose (omega (arith, c.ranges.b.fits)) (omega (arith, c.ranges.transpose.fits)) _ c.amount.ensures
+pub returns-in-Ok : goal.returns-in-Ok
+returns-in-Ok c = sounds _ _ (omega (arith, c.ranges.b.fits)) (omega (arith, c.ranges.transpose.fits)) _ c.amount.ensures _ (sounds_byte _ _ (rw c.from.ensures at c.in-Ok.ensures) c.if-sum-le-LAST_KEY.true) c.if-b-eq-REST.false
 
-pub returns-then-sum-lt0 : goal.returns-then-sum-lt0
-unfolding transposed_of
-returns-then-sum-lt0 c = sounds_below c.args.b c.args.transpose (omega (arith, c.ranges.b.fits)) (omega (arith, c.ranges.transpose.fits)) _ c.amount.ensures c.if-b-eq-REST.false c.if-sum-lt0.true
+pub returns-in_default : goal.returns-in_default
+returns-in_default c = sounds _ _ (omega (arith, c.ranges.b.fits)) (omega (arith, c.ranges.transpose.fits)) _ c.amount.ensures _ (too_high _ _ (rw c.from.ensures at c.in-Ok.ensures) c.if-sum-le-LAST_KEY.false) c.if-b-eq-REST.false
 
-pub returns-then-sum-gt-LAST_SUM : goal.returns-then-sum-gt-LAST_SUM
-unfolding transposed_of
-returns-then-sum-gt-LAST_SUM c = sounds_above c.args.b c.args.transpose (omega (arith, c.ranges.b.fits)) (omega (arith, c.ranges.transpose.fits)) _ c.amount.ensures c.if-b-eq-REST.false c.if-sum-gt-LAST_SUM.true
-
-pub overflow_cast-result : goal.overflow_cast-result
-unfolding transposed_of
-overflow_cast-result c = cast_fits c.args.b c.args.transpose (omega (arith, c.ranges.b.fits)) (omega (arith, c.ranges.transpose.fits)) _ c.amount.ensures c.if-b-eq-REST.false c.if-sum-lt0.false c.if-sum-gt-LAST_SUM.false
-
-pub returns : goal.returns
-unfolding transposed_of
-returns c = sounds c.args.b c.args.transpose (omega (arith, c.ranges.b.fits)) (omega (arith, c.ranges.transpose.fits)) _ c.amount.ensures c.if-b-eq-REST.false c.if-sum-lt0.false c.if-sum-gt-LAST_SUM.false
+pub returns-in_default-2 : goal.returns-in_default-2
+returns-in_default-2 c = sounds _ _ (omega (arith, c.ranges.b.fits)) (omega (arith, c.ranges.transpose.fits)) _ c.amount.ensures _ (no_byte _ (rw c.from.ensures at c.in_default.ensures)) c.if-b-eq-REST.false

@@ -28,4 +28,4 @@ returns-in-Refused c = c.turn_of-in-Refused.ensures ∙ read_turn _ _ _ _ _ _ mo
 
 pub returns : goal.returns
 unfolding read_until
-returns c = (rw c.offset_at-at.ensures at c.turn_of-2.ensures) ∙ read_none _ _ _ _ _ _ _ _ (omega arith) c.loop-count.invariant.1
+returns c = (rw c.offset_at-at.ensures at c.turn_of-2.ensures) ∙ read_none _ _ _ _ _ _ _ _ most_commands (omega (arith, c.loop-count.invariant.0, c.loop-count-test.false)) (omega arith) c.loop-count.invariant.1

@@ -1,6 +1,0 @@
-use lib.Seq.{set_out}
-use mathlib.Core.Path.{sym}
-use Rattle.engine_base.proofs.buffer.put32.Goals as goal
-
-pub returns-else-at-out : goal.returns-else-at-out
-returns-else-at-out c = sym (set_out _ _ _ c.if-at-out.false)

@@ -1,5 +1,0 @@
-use lib.Bits.{and_mask}
-use Rattle.engine_base.proofs.field.low5.Goals as goal
-
-pub returns : goal.returns
-returns c = and_mask _ 5

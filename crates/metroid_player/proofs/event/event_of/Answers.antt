@@ -1,4 +1,0 @@
-use Rattle.metroid_player.proofs.event.event_of.Goals as goal
-
-pub returns : goal.returns
-returns c = rw c.sound_of-sound.ensures

@@ -1,4 +1,0 @@
-use Rattle.metroid_player.proofs.record.fresh.Goals as goal
-
-pub returns : goal.returns
-returns c = rw c.fresh_channel-channel.ensures

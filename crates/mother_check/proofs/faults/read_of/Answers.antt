@@ -1,7 +1,0 @@
-use Rattle.mother_check.proofs.faults.read_of.Goals as goal
-
-pub returns-in-Nothing : goal.returns-in-Nothing
-returns-in-Nothing c = simp c.in-Nothing.is
-
-pub returns-in-Fault : goal.returns-in-Fault
-returns-in-Fault c = simp c.in-Fault.is
