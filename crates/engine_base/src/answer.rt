@@ -27,6 +27,7 @@ pub enum Turned {
 }
 
 // The number of an answer's refusal, or 0.
+// A code or a number of the C interface, not a type of the library's.
 pub fn number_of(answer: Answer) -> u32
     ensures { result ≡ answer_number answer }
 {
@@ -37,6 +38,7 @@ pub fn number_of(answer: Answer) -> u32
 }
 
 // 0 events, 1 end, 2 stopped, 3 refused.
+// A code or a number of the C interface, not a type of the library's.
 pub fn kind_of(answer: Answer) -> u32
     ensures { result ≡ answer_kind answer }
 {

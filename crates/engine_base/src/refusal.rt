@@ -30,6 +30,7 @@ pub enum Refusal {
 }
 
 impl Refusal {
+    // Casts stay here: they narrow what is known to fit, have no `From`, or `From` would want its equation cited in each proof.
     pub fn number(self) -> u32
         ensures { result ≡ number_of self }
     {

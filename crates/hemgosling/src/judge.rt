@@ -10,6 +10,7 @@ use crate::tell::tell;
 use metroid_check::verdict;
 use metroid_check::verdict::Verdict;
 
+// Casts stay here: they narrow what is known to fit, have no `From`, or `From` would want its equation cited in each proof.
 fn tell_verdict(verdict: Verdict, out: &mut [u32]) -> u32
     requires { (start : ℕ → ℕ) × VerdictWithin start verdict }
     ensures { Tells (told_verdict verdict) out.old result out.new }

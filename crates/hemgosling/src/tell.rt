@@ -26,6 +26,7 @@ pub(crate) fn tell(number: u32, values: &[u32], out: &mut [u32]) -> u32
 }
 
 // How many there are, or what is refused.
+// Casts stay here: they narrow what is known to fit, have no `From`, or `From` would want its equation cited in each proof.
 pub(crate) fn tell_count(counted: Result<usize, Refusal>, out: &mut [u32]) -> u32
     requires { IfOk counted (λ count. count ≤ data_limit) }
     ensures written { Tells (told_writing counted) out.old result out.new }
@@ -49,6 +50,7 @@ fn place_of(answer: Answer) -> [u32; 3]
 }
 
 // The words that an answer begins with: the kind, the commands read and the place.
+// `Placed` is one definition that four private clauses name, and holds of every answer of a frame: no type of answers could say it without one of its own.
 #[tactic(auto, using(crate::proofs::tell::Laws::head_put))]
 pub(crate) fn put_head(out: &mut [u32], answer: Answer, counts: [u32; 4])
     requires { Placed answer }

@@ -12,6 +12,7 @@ use metroid_format::words;
 use metroid_format::words::{ReadError, Reading};
 
 // 0 is melodic, any other number noise.
+// A code or a number of the C interface, not a type of the library's.
 pub(crate) fn kind_of(noise: u32) -> Kind
     ensures { result ≡ kind_of noise }
 {
@@ -22,6 +23,7 @@ pub(crate) fn kind_of(noise: u32) -> Kind
     }
 }
 
+// Casts stay here: they narrow what is known to fit, have no `From`, or `From` would want its equation cited in each proof.
 fn tell_reading(reading: Reading, out: &mut [u32]) -> u32
     requires { ReadWithin data_limit reading }
     ensures { Tells (told_reading reading) out.old result out.new }

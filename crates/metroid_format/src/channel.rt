@@ -14,6 +14,7 @@ use engine_base::time::Frames;
 use engine_base::{address, bytes, loops};
 
 // More commands than reading until a note can take.
+// Casts stay here: they narrow what is known to fit, have no `From`, or `From` would want its equation cited in each proof.
 const FUEL: u32 = (DATA_LIMIT / 2 * 257 + 2) as u32;
 
 #[derive(Clone, Copy)]
@@ -123,6 +124,7 @@ fn refused(source: Source, refusal: Refusal, at: u16) -> Played
 }
 
 // What the BL at an offset does: it tests 12, 13, then its next byte 15, 11.
+// `Limited` is one definition that four private clauses name: a cut source of its own type would carry the same proof along.
 fn length_played(source: Source, at: u16, l: u8) -> Played
     requires { Limited source.bytes.now × (at < length source.bytes.now) × (l < 16) × (get_or source.bytes.now at 0 ≡ 0xb0 + l) }
     ensures { (current : Frames) → result ≡ played_at (source_of source.entry.kind source.entry.bytes.now source.entry.lengths.now source.entry.window (address_of source.entry.base)) at current }

@@ -5,6 +5,7 @@ ghost use Rattle.engine_base.specs.Envelope.{envelope_address, envelope_ends};
 use engine_base::{address, bytes, envelope};
 
 // The address of envelope 1 to 5.
+// Casts stay here: they narrow what is known to fit, have no `From`, or `From` would want its equation cited in each proof.
 #[tactic(auto, unfolding(engine_base::specs::Envelope::envelope_address))]
 pub(crate) fn address_of(bank: &[u8], table: u32, number: u8) -> u16
     requires { 0 < number }

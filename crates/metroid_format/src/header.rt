@@ -59,6 +59,7 @@ pub struct Track {
 }
 
 // The tables that all tracks share.
+// Casts stay here: they narrow what is known to fit, have no `From`, or `From` would want its equation cited in each proof.
 #[tactic(auto, unfolding(crate::specs::Header::tables_fit))]
 fn tables_fit(p: Places) -> bool
     ensures { result ≡ tables_fit p }
@@ -256,6 +257,7 @@ fn track_of(bank: &[u8], places: Places, header: &[u8]) -> Track
 }
 
 // A track of a bank, or the first refusal of 1 to 9.
+// Bank, places and track are what each call is asked about, as the C interface has them: a struct would be built to be taken apart.
 #[tactic(auto, unfolding(crate::specs::Header::open_track, crate::specs::Header::number_of, crate::specs::Header::header_of))]
 pub fn open(bank: &[u8], places: Places, track: u32) -> Result<Track, Refusal>
     ensures { Answers told_opened result (open_track bank.now places track) }

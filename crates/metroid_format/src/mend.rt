@@ -84,6 +84,7 @@ fn mend_copy(kind: Kind, bytes: &[u8], copy: &mut [u8])
 }
 
 // A byte of the data behind n changes: how many there are with it. Words are written as far as they fit.
+// Casts stay here: they narrow what is known to fit, have no `From`, or `From` would want its equation cited in each proof.
 #[tactic(auto, unfolding(crate::specs::Mend::change_words))]
 fn list_change(list: &mut [u16], n: usize, at: usize, old: u8, new: u8) -> usize
     requires { (n ≤ at) × (at < data_limit) }
@@ -129,6 +130,7 @@ fn change(bytes: &mut [u8], new: &[u8], list: &mut [u16]) -> Mending
 }
 
 // One channel's data, changed so that it reads, and three words a change.
+// The changes as words with their count, in a lent buffer: the C interface, and no heap.
 pub fn mend(kind: Kind, bytes: &mut [u8], list: &mut [u16]) -> Mending
     ensures { Mends data_limit kind bytes.old list.old result bytes.new list.new }
 {

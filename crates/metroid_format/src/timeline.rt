@@ -51,6 +51,7 @@ pub struct Soonest {
 }
 
 // The frames of a loop's later plays.
+// Casts stay here: they narrow what is known to fit, have no `From`, or `From` would want its equation cited in each proof.
 fn later_plays(counter: u8, lead: u32, length: u8, rest: u32) -> u32
     requires { (lead ≤ data_limit) × (rest ≤ 255 * data_limit) }
     ensures { (result ≡ counter * (lead * length + rest)) × (result ≤ 255 * (510 * data_limit)) }

@@ -105,6 +105,7 @@ fn encode(kind: Kind, words: &[u16], out: &mut [u8]) -> Option<usize>
 }
 
 // One channel's data into words, one a command, up to and including the first end.
+// The words and their count, in a lent buffer: the C interface, and no heap.
 pub fn read_words(kind: Kind, bytes: &[u8], out: &mut [u16]) -> Reading
     ensures { Reads data_limit kind bytes.now out.old result out.new }
 {

@@ -28,6 +28,7 @@ pub enum Sound {
     Noise(u8, u8, u8),
 }
 
+// `began` is a word of its own in what is told of an event, beside any sound.
 #[derive(Clone, Copy)]
 pub struct Event {
     // in this frame

@@ -19,6 +19,7 @@ pub struct Channel {
     pub sounding: u8,
 }
 
+// Plain numbers, 0 for what is not yet: the C interface fixes the record.
 #[repr(C)]
 #[derive(Clone, Copy)]
 pub struct Player {
@@ -113,6 +114,7 @@ fn channel_fits(voice: Option<Voice>, channel: Channel) -> bool
 }
 
 // What 16 tests of the used channels.
+// A record's channels beside a header's voices: two arrays, since the C interface fixes the one.
 fn channels_fit(voices: [Option<Voice>; 4], channels: [Channel; 4]) -> bool
     ensures { result ≡ channels_fit voices channels }
 {

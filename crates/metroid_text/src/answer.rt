@@ -11,6 +11,7 @@ use metroid_player::event;
 use metroid_player::event::Event;
 use metroid_player::frame::Framed;
 
+// Casts stay here: they narrow what is known to fit, have no `From`, or `From` would want its equation cited in each proof.
 fn place_of(answer: Answer) -> [u64; 3]
     ensures { result ≡ answer_place answer }
 {

@@ -10,6 +10,7 @@ impl Line<'_> {
         requires { self.old.at + digits_most < 2 ^ 64 }
         ensures { Writes digits_most (decimal number) self.old self.new }
     {
+        // Digits in a lent array and how many there are: the library's call gives them so, and there is no heap.
         let mut digits = [0u8; 20];
         let count = io::decimal(number, &mut digits);
         self.text(&digits[..count]);

@@ -11,6 +11,7 @@ impl Line<'_> {
         requires { self.old.at + hex_digits < 2 ^ 64 }
         ensures { Writes hex_digits (hex number) self.old self.new }
     {
+        // Digits in a lent array and how many there are: the library's call gives them so, and there is no heap.
         let mut digits = [0u8; 16];
         let count = io::hex(u64::from(number % 65536), 4, &mut digits);
         self.text(&digits[..count]);

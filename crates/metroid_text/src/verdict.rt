@@ -15,6 +15,7 @@ pub(crate) fn put_sentence(word: &[u8], values: &[u64], line: &mut Line)
     line.spaced(values);
 }
 
+// Casts stay here: they narrow what is known to fit, have no `From`, or `From` would want its equation cited in each proof.
 #[tactic(auto, using(crate::proofs::line::Laws::writes_within))]
 fn put_words(verdict: Verdict, line: &mut Line)
     requires { line.old.at + words_most < 2 ^ 64 }

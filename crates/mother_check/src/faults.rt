@@ -57,6 +57,7 @@ fn end_fault(site: Site, noted: bool, at: u16) -> Result<(), Fault>
 }
 
 // A block read straight: its first fault, or whether a length stands before its end in playing order.
+// Casts stay here: they narrow what is known to fit, have no `From`, or `From` would want its equation cited in each proof.
 #[tactic(auto, using(crate::proofs::faults::Laws::midblock_none, crate::proofs::faults::Laws::offset_fits, crate::proofs::faults::Laws::block_found, crate::proofs::faults::Laws::block_past))]
 fn block_read(visit: Visit, sized: bool) -> Result<bool, Fault>
     ensures { result ≡ read_of

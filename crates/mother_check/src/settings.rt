@@ -69,6 +69,7 @@ fn worse_window(banks: Banks, table: u32, l: u8, window: u8, t: u8) -> u8
     if is_sooner(then, now) { t } else { window }
 }
 
+// Casts stay here: they narrow what is known to fit, have no `From`, or `From` would want its equation cited in each proof.
 #[tactic(auto, unfolding(crate::specs::Extremes::with_window), using(crate::proofs::settings::Laws::worsening_none, crate::proofs::settings::Laws::worsening_more, crate::proofs::settings::Laws::worsened))]
 fn with_window(banks: Banks, table: u32, mut e: Extremes, t: u8) -> Extremes
     ensures { result ≡ with_window (bytes_of banks.entry) table e t }

@@ -51,6 +51,7 @@ pub(crate) fn first(list: u16) -> Spot
 }
 
 // The word at a spot; where a goto leads is marked.
+// Casts stay here: they narrow what is known to fit, have no `From`, or `From` would want its equation cited in each proof.
 #[tactic(auto, using(crate::proofs::walk::Laws::target_fits, crate::proofs::walk::Laws::row_fits, crate::proofs::walk::Laws::answers_word, crate::proofs::walk::Laws::goes_marked, crate::proofs::walk::Laws::goes_unmarked))]
 pub(crate) fn word_at(banks: Banks, spot: Spot, marks: &mut [bool; ADDRESSES]) -> Word
     ensures { (result ≡ word_at (bytes_of banks.entry) spot marks.old)

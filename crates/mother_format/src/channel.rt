@@ -86,6 +86,7 @@ pub enum Played {
 }
 
 // Entry window + L of the length table.
+// Casts stay here: they narrow what is known to fit, have no `From`, or `From` would want its equation cited in each proof.
 #[tactic(auto, unfolding(crate::specs::Channel::length_at))]
 fn length_at(banks: Banks, table: u32, window: u8, l: u8) -> u8
     ensures { result ≡ length_at (bytes_of banks.entry) table window l }

@@ -28,6 +28,7 @@ fn shows_end(banks: Banks, at: usize) -> bool
 }
 
 // The place of an envelope's address in the table, from 1 on.
+// Casts stay here: they narrow what is known to fit, have no `From`, or `From` would want its equation cited in each proof.
 fn entry_of(table: u32, number: u8) -> usize
     ensures { result ≡ table + 2 * (number - 1) }
 {

@@ -44,6 +44,7 @@ pub struct Track {
     pub voices: [Option<Voice>; 4],
 }
 
+// Casts stay here: they narrow what is known to fit, have no `From`, or `From` would want its equation cited in each proof.
 #[tactic(auto, unfolding(crate::specs::Header::places_fit))]
 fn places_fit(p: Places) -> bool
     ensures { result ≡ places_fit p }

@@ -36,6 +36,7 @@ fn goto_at(banks: Banks, list: u16, by_goto: bool) -> Result<Entry, Refusal>
 }
 
 // The word at an address, or 20; after row block words since the start or the last goto; by_goto if a goto led to it.
+// `by_goto` is how the word was come to, as the definition takes it, and no value goes with it.
 #[tactic(auto, using(crate::proofs::playlist::Next::list_fits), unfolding(crate::specs::Playlist::entry_at))]
 pub fn entry_at(banks: Banks, list: u16, row: u16, by_goto: bool) -> Result<Entry, Refusal>
     ensures { Answers told_entry result (entry_at (bytes_of banks.entry) list row by_goto) }

@@ -35,6 +35,7 @@ fn notes_of(command: Command) -> usize
 }
 
 // The commands of a block up to where reading stops.
+// The check goes over a block by the same steps twice more, each with another body and stop: one loop for all takes closures that answer when to stop, and is no plainer.
 pub fn read(kind: Kind, bytes: &[u8]) -> Reading
     ensures { Answers told_reading result (reading_of (straight kind bytes.now)) }
 {

@@ -52,6 +52,7 @@ fn ctrl1_at(banks: Banks, at: u16, default: u8, index: Frames) -> u8
 }
 
 // Ctrl 1 of a note, by the record's timbre and C, with the frame not yet taken off.
+// Casts stay here: they narrow what is known to fit, have no `From`, or `From` would want its equation cited in each proof.
 pub(crate) fn note_ctrl1(banks: Banks, table: u32, channel: Channel) -> u8
     ensures { result ≡ note_ctrl1 (bytes_of banks.entry) table channel }
 {

@@ -33,6 +33,7 @@ pub enum Sound {
 }
 
 // Like the old engine's, over types and definitions of its own: a trait for both would be longer than the two.
+// `began` is a word of its own in what is told of an event, beside any sound.
 #[derive(Clone, Copy)]
 pub struct Event {
     // in this frame
@@ -53,6 +54,7 @@ pub(crate) fn off() -> Event
 }
 
 // The word of a key in the table at an address.
+// Casts stay here: they narrow what is known to fit, have no `From`, or `From` would want its equation cited in each proof.
 #[tactic(auto, using(crate::proofs::event::Tables::period_is))]
 fn period_at(banks: Banks, table: u32, key: u8) -> u16
     ensures { result ≡ period_at (drop (offset_of table) (bytes_of banks.entry)) key }

@@ -8,6 +8,7 @@ use mother_format::command::Kind;
 use mother_format::header::Voice;
 use mother_format::{bank, command, envelope, transpose};
 
+// Plain numbers, 0 for what is not yet: the C interface fixes the record.
 #[repr(C)]
 #[derive(Clone, Copy)]
 pub struct Channel {
@@ -32,6 +33,7 @@ pub struct Channel {
     pub ctrl: u8,
 }
 
+// Plain numbers: the C interface fixes the record.
 #[repr(C)]
 #[derive(Clone, Copy)]
 pub struct Player {

@@ -20,6 +20,7 @@ fn print_refusal(refusal: Refusal) {
     print_number(b"refused ", u64::from(refusal.number()));
 }
 
+// Casts stay here: they narrow what is known to fit, have no `From`, or `From` would want its equation cited in each proof.
 fn print_reading(reading: Reading) {
     match reading {
         Ok(count) => print_number(b"read ", count as u64),

@@ -22,6 +22,7 @@ const TRACKS: u32 = 6;
 const FRAMES: u32 = 10;
 
 // The line of a track's verdict, in a lent buffer.
+// Like cuecheck's, with the track's number in front of the verdict.
 fn line_of<'a>(track: u32, verdict: Verdict, out: &'a mut [u8; LINE_MOST]) -> &'a [u8]
     ensures { result.now ≡ verdict_line track verdict }
 {
