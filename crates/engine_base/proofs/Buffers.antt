@@ -1,13 +1,12 @@
 -- A lent buffer that is filled, as far as the values fit.
-use Prim.Native.Nat.{ℕ, suc, ◌+◌, ◌-◌, ◌≤◌, ◌<◌}
+use Prim.Native.Nat.{ℕ, suc, ◌+◌, ◌≤◌, ◌<◌}
 use mathlib.Core.List.{List, [], ◌∷◌, ◌++◌}
-use mathlib.Core.Path.{◌≡◌, refl, sym, ap, subst, ◌∙◌}
-use native.Mathlib.Nat.{add-zero, add-suc, suc-add}
+use mathlib.Core.Path.{◌≡◌, refl, sym, ◌∙◌}
+use native.Mathlib.Nat.{add-zero, add-suc, suc-add, add_assoc}
+use native.Mathlib.Numerals.{add-one}
 use native.Mathlib.Omega.{arith}
-use lib.ListN.{length, set, take, drop, length-append, take-append-drop}
-use Rattle.std.proofs.lemmas.List.{append_assoc}
-use lib.Seq.{sets, sets-eq, set_out, length-sets, length-take-le, drop-drop}
-use borrow.Rule.Slice.PartMut.{put_mid}
+use lib.ListN.{length, get_or, set, drop, drop_of_length-le, length-set, length-append}
+use lib.Seq.{sets, set_out, length-sets, drop-cons}
 
 pub sets_append : {A : Type 0} (l : List A) (i : ℕ) (vs ws : List A) → sets l i (vs ++ ws) ≡ sets (sets l i vs) (i + length vs) ws
 sets_append l i [] ws = rw add-zero
@@ -32,23 +31,23 @@ pub sets_out : {A : Type 0} (l : List A) (i : ℕ) (vs : List A) → length l �
 sets_out l i [] h = refl
 sets_out l i (v ∷ vs) h = rw (set_out l i v h) (sets_out l (suc i) vs (omega arith))
 
--- all the values fit behind an index
-pub sets_whole : {A : Type 0} (l : List A) (i : ℕ) (vs : List A) → i + length vs ≤ length l → put_mid i (i + length vs - i) l vs ≡ sets l i vs
-sets_whole l i vs h =
-    let count : i + length vs - i ≡ length vs = omega arith in
-    rw (count, drop-drop (length vs) i l) (sym (sets-eq vs l i h ∙ append_assoc (take i l) vs (drop (i + length vs) l)))
+-- with i values written from an index on, as far as they fit, the rest is still to come
+pub record Filling {A : Type 0} (before : List A) (at : ℕ) (values now : List A) (i : ℕ) : Type 0 where
+  pub same : sets before at values ≡ sets now (at + i) (drop i values)
+  pub size : length now ≡ length before
 
--- or as many as there is room for: what is behind them changes nothing
-pub sets_cut : {A : Type 0} (l : List A) (i : ℕ) (vs : List A) → i < length l → length l - i < length vs →
-    put_mid i (length l - i) l (take (length l - i) vs) ≡ sets l i vs
-sets_cut l i vs h m =
-    let n = length l - i in
-    let size : length (take n vs) ≡ n = length-take-le n vs (omega arith) in
-    let now = sets l i (take n vs) in
-    let count : i + length (take n vs) - i ≡ n = omega (arith, size) in
-    let whole : put_mid i n l (take n vs) ≡ now = subst (λ k. put_mid i k l (take n vs) ≡ now) count (sets_whole l i (take n vs) (omega (arith, size))) in
-    let beyond : now ≡ sets now (i + length (take n vs)) (drop n vs) =
-    sets_out now (i + length (take n vs)) (drop n vs) (omega (arith, size, length-sets l i (take n vs))) in
-    whole ∙ beyond ∙ sym (sets_append l i (take n vs) (drop n vs)) ∙ ap (sets l i) (take-append-drop n vs)
+module _ {A : Type 0} (before : List A) (at : ℕ) (values now : List A) (i : ℕ) (f : Filling before at values now i) where
+  pub filling_more : (d : A) → i < length values → (next : List A) → next ≡ set now (at + i) (get_or values i d) → Filling before at values next (i + 1)
+  filling_more d h next e = record {
+    same = f.same ∙ rw (drop-cons values i d h, e, ← add-one i, ← add_assoc at i 1, add-one (at + i));
+    size = rw e (length-set now (at + i) (get_or values i d) ∙ f.size);
+  }
 
-pub ruleset fills = (sets_out, sets_whole, sets_cut)
+  pub filling_out : length now ≤ at + i → Filling before at values now (i + 1)
+  filling_out h = record {
+    same = f.same ∙ sym (sets_out now (at + i) (drop i values) h) ∙ sets_out now (at + (i + 1)) (drop (i + 1) values) (omega (arith, h));
+    size = f.size;
+  }
+
+  pub filled : length values ≤ i → now ≡ sets before at values
+  filled h = rw (f.same, drop_of_length-le values {i = i} h)

@@ -11,8 +11,7 @@ pub fn put<T: Copy>(out: &mut [T], at: usize, value: T)
     }
 }
 
-// Values from an index on.
-#[tactic(auto, using(crate::proofs::Buffers::fills))]
+// Values from an index on, one by one: they are few, and a copy whose length only a run knows is a call each time.
 pub fn fill<T: Copy>(out: &mut [T], at: usize, values: &[T])
     ensures { out.new ≡ sets out.old at values.now }
 {
@@ -20,9 +19,9 @@ pub fn fill<T: Copy>(out: &mut [T], at: usize, values: &[T])
         return;
     }
     let room = out.len() - at;
-    if values.len() <= room {
-        out[at..at + values.len()].copy_from_slice(values);
-    } else {
-        out[at..].copy_from_slice(&values[..room]);
+    for i in 0..values.len() {
+        if i < room {
+            out[at + i] = values[i];
+        }
     }
 }

@@ -9,5 +9,10 @@ pub const REACH: usize = 64;
 pub fn shows_end(bytes: &[u8]) -> bool
     ensures { result ≡ shows_end bytes.now }
 {
-    bytes.iter().any(|b| matches!(*b, 0xf0 | 0xff))
+    for i in 0..bytes.len() {
+        if matches!(bytes[i], 0xf0 | 0xff) {
+            return true;
+        }
+    }
+    false
 }

@@ -3,6 +3,7 @@ ghost use Rattle.std.specs.Prelude.{ℕ, ◌+◌, ◌/◌, ◌<◌, ◌≡◌, O
 ghost use Rattle.metroid_format.specs.Command.{command_at, is_key, is_preset, is_note, note_after, is_end, told};
 ghost use Rattle.engine_base.specs.Told.{Answers};
 
+use engine_base::field;
 use engine_base::refusal::Refusal;
 
 // The bytes of one channel's data.
@@ -103,8 +104,8 @@ pub(crate) fn rule_at(kind: Kind, bytes: &[u8], at: usize) -> Result<Rule, Refus
     match b {
         0x00 => Ok(Rule::End),
         0xff => Ok(Rule::EndLoop),
-        0xc0.. => Ok(Rule::BeginLoop(b - 0xc0)),
-        0xb0.. => Ok(Rule::Length(b - 0xb0)),
+        0xc0.. => Ok(Rule::BeginLoop(field::low::<6>(b))),
+        0xb0.. => Ok(Rule::Length(field::low::<4>(b))),
         0x80.. => Err(Refusal::InvalidCommand),
         _ if is_note(kind, b) => Ok(Rule::Note(b)),
         _ => Err(Refusal::InvalidNote),

@@ -79,7 +79,7 @@ fn mend_copy(kind: Kind, bytes: &[u8], copy: &mut [u8])
     ensures { take (length bytes.now) copy.new ≡ mended kind bytes.now }
 {
     let size = bytes.len();
-    buffer::fill(copy, 0, bytes);
+    copy[..size].copy_from_slice(bytes);
     mend_data(kind, &mut copy[..size]);
 }
 
@@ -125,7 +125,7 @@ fn change(bytes: &mut [u8], new: &[u8], list: &mut [u16]) -> Mending
         return Err(Refusal::NoRoom);
     }
     list_changes(bytes, new, list);
-    buffer::fill(bytes, 0, new);
+    bytes.copy_from_slice(new);
     Ok(count)
 }
 

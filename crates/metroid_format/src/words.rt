@@ -31,6 +31,8 @@ struct Decoding {
 }
 
 // The words of the data up to its end or first refusal, written as far as they fit.
+// Laid into its caller, which counts by it first: that pass then writes nothing.
+#[inline(always)]
 fn decode(kind: Kind, bytes: &[u8], out: &mut [u16]) -> Decoding
     ensures { Decodes (straight kind bytes.now) out.old result.count result.finish out.new }
 {
@@ -85,6 +87,8 @@ fn put_pair(out: &mut [u8], at: usize, word: u16, count: usize)
 }
 
 // The bytes of the words up to the first that is refused, written as far as they fit: how many there are, if none is.
+// Laid into its caller too.
+#[inline(always)]
 fn encode(kind: Kind, words: &[u16], out: &mut [u8]) -> Option<usize>
     ensures valid { MatchOption result ((encoded kind words.now).valid ≡ false) (λ count. Encodes (encoded kind words.now) out.old count true out.new) }
     ensures written { out.new ≡ sets out.old 0 (encoded kind words.now).bytes }

@@ -89,12 +89,14 @@ fn early_at(visit: Visit, at: u16) -> Result<(), Refusal>
     }
 }
 
-// The first fault of the command at an offset, under what is set anywhere in the track.
+// The first fault of the command at an offset, under what is set anywhere in the track. The visit is lent: by value it is copied
+// for each command.
 // Casts stay here: they narrow what is known to fit, have no `From`, or `From` would want its equation cited in each proof.
 #[tactic(auto, using(crate::proofs::command_faults::Tests::past_tested, crate::proofs::command_faults::Tests::early_tested, crate::proofs::command_faults::Tests::command_tested, crate::proofs::command_faults::Tests::offset_small, crate::proofs::command_faults::Tests::refusal_fits))]
-pub(crate) fn first_tried(visit: Visit, sized: bool, at: u16) -> Result<(), Fault>
-    ensures { result ≡ unless_found (first_tried (of_block visit.entry.source) visit.entry.site visit.entry.extremes sized at) }
+pub(crate) fn first_tried(visit: &Visit, sized: bool, at: u16) -> Result<(), Fault>
+    ensures { result ≡ unless_found (first_tried (of_block visit.now.source) visit.now.site visit.now.extremes sized at) }
 {
+    let visit = *visit;
     let block = visit.source.block();
     let index = usize::from(at);
     if block.len() <= index {

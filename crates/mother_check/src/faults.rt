@@ -72,7 +72,7 @@ fn block_read(visit: Visit, sized: bool) -> Result<bool, Fault>
     };
     let mut at = 0;
     for _ in 0..data.len() {
-        command_faults::first_tried(visit, progress.sized, at as u16)?;
+        command_faults::first_tried(&visit, progress.sized, at as u16)?;
         let Ok((command, next)) = command::command_at(visit.source.kind, data, at) else {
             return Ok(progress.sized);
         };
@@ -83,7 +83,7 @@ fn block_read(visit: Visit, sized: bool) -> Result<bool, Fault>
         progress = reading::past(progress, command);
         at = next;
     }
-    command_faults::first_tried(visit, progress.sized, at as u16)?;
+    command_faults::first_tried(&visit, progress.sized, at as u16)?;
     Ok(progress.sized)
 }
 

@@ -1,5 +1,5 @@
 // A track's header, and what is refused of banks, their places and a header.
-ghost use Rattle.std.specs.Prelude.{◌≡◌};
+ghost use Rattle.std.specs.Prelude.{ℕ, ◌≡◌, List};
 ghost use Rattle.engine_base.specs.Told.{Answers};
 ghost use Rattle.mother_format.specs.Bank.{bytes_of};
 ghost use Rattle.mother_format.specs.Header.{
@@ -119,32 +119,29 @@ fn address_fits(address: u16) -> bool
 }
 
 #[tactic(auto, unfolding(crate::specs::Header::addresses_fit))]
-fn addresses_fit(banks: Banks, header: u16) -> bool
-    ensures { result ≡ addresses_fit (bytes_of banks.entry) header }
+fn addresses_fit(addresses: [u16; 4]) -> bool
+    ensures { (bank : List ℕ) (header : ℕ) → addresses ≡ addresses_at bank header → result ≡ addresses_fit bank header }
 {
-    addresses_at(banks, header)
-        .iter()
-        .all(|address| address_fits(*address))
+    addresses.iter().all(|address| address_fits(*address))
 }
 
 #[tactic(auto, unfolding(crate::specs::Header::all_unused))]
-fn all_unused(banks: Banks, header: u16) -> bool
-    ensures { result ≡ all_unused (bytes_of banks.entry) header }
+fn all_unused(addresses: [u16; 4]) -> bool
+    ensures { (bank : List ℕ) (header : ℕ) → addresses ≡ addresses_at bank header → result ≡ all_unused bank header }
 {
-    addresses_at(banks, header)
-        .iter()
-        .all(|address| is_unused(*address))
+    addresses.iter().all(|address| is_unused(*address))
 }
 
 // Tests 8, 9 and 19.
 #[tactic(auto, unfolding(crate::specs::Header::header_number))]
-fn check_header(banks: Banks, header: u16) -> Result<(), Refusal>
+fn check_header(banks: Banks, header: u16, addresses: [u16; 4]) -> Result<(), Refusal>
+    requires { addresses ≡ addresses_at (bytes_of banks) header }
     ensures { result ≡ header_number (bytes_of banks.entry) header }
 {
-    if !addresses_fit(banks, header) {
+    if !addresses_fit(addresses) {
         return Err(Refusal::ChannelOutside);
     }
-    if all_unused(banks, header) {
+    if all_unused(addresses) {
         return Err(Refusal::NoChannel);
     }
     if transpose::is_odd(banks.byte(usize::from(header))) {
@@ -168,10 +165,10 @@ fn voice_of(kind: Kind, address: u16) -> Option<Voice>
 }
 
 #[tactic(auto, unfolding(crate::specs::Header::voices_of))]
-fn voices_of(banks: Banks, header: u16) -> [Option<Voice>; 4]
-    ensures { result ≡ voices_of (bytes_of banks.entry) header }
+fn voices_of(addresses: [u16; 4]) -> [Option<Voice>; 4]
+    ensures { (bank : List ℕ) (header : ℕ) → addresses ≡ addresses_at bank header → result ≡ voices_of bank header }
 {
-    let [square1, square2, triangle, noise] = addresses_at(banks, header);
+    let [square1, square2, triangle, noise] = addresses;
     [
         voice_of(Kind::Square, square1),
         voice_of(Kind::Square, square2),
@@ -181,14 +178,15 @@ fn voices_of(banks: Banks, header: u16) -> [Option<Voice>; 4]
 }
 
 #[tactic(auto, unfolding(crate::specs::Header::track_of))]
-fn track_of(banks: Banks, header: u16) -> Track
+fn track_of(banks: Banks, header: u16, addresses: [u16; 4]) -> Track
+    requires { addresses ≡ addresses_at (bytes_of banks) header }
     ensures { result ≡ track_of (bytes_of banks.entry) header }
 {
     let header_at = usize::from(header);
     Track {
         transpose: banks.byte(header_at),
         window: banks.byte(header_at + 1),
-        voices: voices_of(banks, header),
+        voices: voices_of(addresses),
     }
 }
 
@@ -200,6 +198,7 @@ pub fn open(banks: Banks, places: Places, track: u32) -> Result<Track, Refusal>
     check_places(banks, places, track)?;
     let address = header_address(banks, places, track);
     let header = address::offset_of(address) as u16;
-    check_header(banks, header)?;
-    Ok(track_of(banks, header))
+    let addresses = addresses_at(banks, header);
+    check_header(banks, header, addresses)?;
+    Ok(track_of(banks, header, addresses))
 }

@@ -1,7 +1,7 @@
 -- What mending owes: the answer, the lent data and list, and what is so of them.
 use Prim.Native.Nat.{ℕ, ◌+◌, ◌*◌, ◌≤◌, ◌<◌}
 use mathlib.Core.Bool.{Bool, true, false}
-use mathlib.Core.List.{List, [], ◌∷◌, ◌++◌, append-nil}
+use mathlib.Core.List.{List, [], ◌∷◌, ◌++◌}
 use mathlib.Core.Path.{◌≡◌, refl, sym, ap, subst, ◌∙◌}
 use native.Mathlib.Nat.{zero-add}
 use native.Mathlib.Omega.{arith}
@@ -9,8 +9,8 @@ use borrow.Author.Tests.{eq-eqb, ne_eqb, leb-true, le-leb, lt-leb}
 use mir.Syntax.{w64}
 use mir.Val.{Fits}
 use lib.Dec.{leb, eqb}
-use lib.ListN.{length, take, drop, drop_of_length-le}
-use lib.Seq.{sets, sets-eq, take_at, take_all, take-length, take-append_seam}
+use lib.ListN.{length, take, drop}
+use lib.Seq.{take_at, take_all, take-length, take-append_seam}
 use Rattle.std.specs.Prelude.{Ok, Err}
 use Rattle.engine_base.specs.Pick.{pick}
 use Rattle.engine_base.specs.declared.refusal.Refusal.TheVariants.{NoRoom, WrongDataSize}
@@ -49,19 +49,19 @@ saves kind bytes h =
     }
 
 -- data copied to the start of an array
-module _ (kind : Kind) (bytes array copied : List ℕ) (room : length bytes ≤ length array) (e : copied ≡ sets array 0 bytes) where
-  copied_there : take (length bytes) copied ≡ bytes
-  copied_there = rw (e, sets-eq bytes array 0 (omega arith)) (take-append_seam bytes _)
+module _ (kind : Kind) (bytes array copied : List ℕ) (e : copied ≡ bytes) where
+  copied_there : take (length bytes) (copied ++ drop (length bytes) array) ≡ bytes
+  copied_there = rw e (take-append_seam bytes _)
 
-  module _ (m : List ℕ) (f : m ≡ mended kind (take (length bytes) copied)) where
+  module _ (m : List ℕ) (f : m ≡ mended kind (take (length bytes) (copied ++ drop (length bytes) array))) where
     is_mended : m ≡ mended kind bytes
     is_mended = f ∙ ap (mended kind) copied_there
 
     same_size : length m ≡ length bytes
     same_size = rw is_mended (length_mended kind bytes)
 
-    pub copy_mended : take (length bytes) (m ++ drop (length bytes) copied) ≡ mended kind bytes
-    copy_mended = take_at m (drop (length bytes) copied) (length bytes) same_size ∙ is_mended
+    pub copy_mended : take (length bytes) (m ++ drop (length bytes) (copied ++ drop (length bytes) array)) ≡ mended kind bytes
+    copy_mended = take_at m _ (length bytes) same_size ∙ is_mended
 
 -- the changes of data to others of its size, as they are counted
 module _ (bytes new : List ℕ) (z : (length bytes ≤ data_limit) × (length new ≡ length bytes)) (scratch used : List ℕ) (count : ℕ) (d : Lists 0 (changes bytes new) scratch count used) where
@@ -84,19 +84,14 @@ module _ (bytes new list : List ℕ) (z : (length bytes ≤ data_limit) × (leng
       let e = lt-leb _ _ (rw (words_are bytes new z (take 0 list) none count d) at s) in
       record { answered = sym (simp e); becomes = sym (simp e); listed = still ∙ sym (simp e) }
 
-  pub changed_all : count * 3 ≤ length list → (list' bytes' : List ℕ) (count' : ℕ) → Lists 0 (changes bytes new) (none ++ drop 0 list) count' list' → bytes' ≡ sets bytes 0 new → Changed bytes new list (Ok count) bytes' list'
+  pub changed_all : count * 3 ≤ length list → (list' bytes' : List ℕ) (count' : ℕ) → Lists 0 (changes bytes new) (none ++ drop 0 list) count' list' → bytes' ≡ new → Changed bytes new list (Ok count) bytes' list'
   changed_all s list' bytes' count' t q =
       let cs = changes bytes new in
       let room : length (change_words cs) ≤ length list = rw (words_are bytes new z (take 0 list) none count d) at s in
       let e = le-leb (length (change_words cs)) (length list) room in
-      let whole : bytes' ≡ new =
-      filled_whole new bytes bytes' (omega (arith, z.1)) q
-      ∙ ap (λ (x : List ℕ). new ++ x) (drop_of_length-le bytes {i = length new} (omega (arith, z.1)))
-      ∙ append-nil new
-      in
       record {
         answered = ap Ok (counted bytes new z (take 0 list) none count d) ∙ sym (simp e);
-        becomes = whole ∙ sym (simp e);
+        becomes = q ∙ sym (simp e);
         listed = filled_whole (change_words cs) list list' room (t.filled ∙ rw still) ∙ sym (simp e);
       }
 

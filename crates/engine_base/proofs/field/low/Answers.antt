@@ -1,4 +1,4 @@
-use Prim.Native.Nat.{ℕ, ◌<◌, ◌≤◌, ◌*◌, ◌^◌}
+use Prim.Native.Nat.{◌<◌, ◌≤◌, ◌*◌, ◌^◌}
 use native.Mathlib.Omega.{arith}
 use native.Mathlib.Nat.{pow-le-pow_right, mod-eq_of_lt, one-mul}
 use mathlib.Core.Path.{sym}

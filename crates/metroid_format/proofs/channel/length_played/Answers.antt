@@ -15,4 +15,4 @@ returns-in-Ok-note_at c current =
 pub returns-in-Err-note_at : goal.returns-in-Err-note_at
 returns-in-Err-note_at c current =
     let p = c.requires in
-    rw c.refused-in-Err-note_at.ensures (plays_after _ _ _ _ _ _ current p.1 _ p.2 p.3 c.in-Ok.ensures.0 _ (c.in-Err-note_at.ensures c.args.l))
+    rw c.address_at.ensures (plays_after _ _ _ _ _ _ current p.1 _ p.2 p.3 c.in-Ok.ensures.0 _ (c.in-Err-note_at.ensures c.args.l))
