@@ -11,7 +11,7 @@ pub fn put<T: Copy>(out: &mut [T], at: usize, value: T)
     }
 }
 
-// Values from an index on, one by one: they are few, and a copy whose length only a run knows is a call each time.
+// Values from an index on. One by one, since they are few: a copy of a length not known beforehand is a call of memcpy each time.
 pub fn fill<T: Copy>(out: &mut [T], at: usize, values: &[T])
     ensures { out.new ≡ sets out.old at values.now }
 {

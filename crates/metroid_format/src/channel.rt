@@ -136,7 +136,7 @@ fn length_played(source: Source, at: u16, l: u8) -> Played
     let next = at + 1;
     match command::note_at(source.kind, source.bytes, next as usize) {
         Ok(note) => Played::Length(note, Frames { count }, next + 1),
-        // at the byte behind BL, address and all
+        // not by `refused`, so that a must-fail edit can name another address alone
         Err(refusal) => Played::Refused(refusal, next, address_at(source.base, next)),
     }
 }

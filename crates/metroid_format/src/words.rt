@@ -31,7 +31,7 @@ struct Decoding {
 }
 
 // The words of the data up to its end or first refusal, written as far as they fit.
-// Laid into its caller, which counts by it first: that pass then writes nothing.
+// Laid into its caller, which counts by it first: that pass then stores nothing.
 #[inline(always)]
 fn decode(kind: Kind, bytes: &[u8], out: &mut [u16]) -> Decoding
     ensures { Decodes (straight kind bytes.now) out.old result.count result.finish out.new }

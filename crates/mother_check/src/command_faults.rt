@@ -89,8 +89,8 @@ fn early_at(visit: Visit, at: u16) -> Result<(), Refusal>
     }
 }
 
-// The first fault of the command at an offset, under what is set anywhere in the track. The visit is lent: by value it is copied
-// for each command.
+// The first fault of the command at an offset, under what is set anywhere in the track. The visit is lent, since by value its caller
+// copies it for each command; the copy in the body is not made.
 // Casts stay here: they narrow what is known to fit, have no `From`, or `From` would want its equation cited in each proof.
 #[tactic(auto, using(crate::proofs::command_faults::Tests::past_tested, crate::proofs::command_faults::Tests::early_tested, crate::proofs::command_faults::Tests::command_tested, crate::proofs::command_faults::Tests::offset_small, crate::proofs::command_faults::Tests::refusal_fits))]
 pub(crate) fn first_tried(visit: &Visit, sized: bool, at: u16) -> Result<(), Fault>
